@@ -1,8 +1,9 @@
--- The code of arguments beside their parameters. A value parameter takes a value that is assignable to it, a VAR parameter
--- the address of a variable of the same type. An open array takes the address of an array of the same element type, and
--- the number of its elements less 1. An array or a record by value is its address; of a string it is the address of
--- temporary cells with a copy.
-use Rattle.std.specs.Prelude.{ℕ, ◌+◌, ◌-◌, ◌&&◌, ◌||◌, not, Bool, true, false, pos, List, [], ◌∷◌, length, min, if◌then◌else◌, Option, Some, None}
+-- The code of arguments beside their parameters. A value parameter takes a value that is assignable to it, a VAR
+-- parameter the address of a variable of the same type. An open array takes the address of an array of the same
+-- element type, and the number of its elements less 1. An array or a record by value is its address; of a string it is
+-- the address of temporary cells with a copy.
+use Rattle.std.specs.Prelude.{ℕ, ◌+◌, ◌-◌, ◌&&◌, ◌||◌, not, Bool, true, false, pos, List, [], ◌∷◌, length, min}
+use Rattle.std.specs.Prelude.{if◌then◌else◌, Option, Some, None}
 use Rattle.m2_base.specs.Gives.{Gives, gives, and_then}
 use Rattle.m2_base.specs.declared.rows.Place.{Place}
 use Rattle.m2_base.specs.declared.rows.RowMeaning.{RowMeaning}
@@ -51,7 +52,8 @@ by_value c t at x = and_then (assigned_to c t at not_assignable x) (λ v. gives 
 
 -- by its operand, an argument of a VAR parameter of this type
 abbrev pub address_by : Context → Place → (at : ℕ) → Part → Operand → Gives (Option Part)
-address_by c t at code (Variable u) = if is_same c.scene t u then gives (Some code) else refuse c at wrong_argument None
+address_by c t at code (Variable u) =
+    if is_same c.scene t u then gives (Some code) else refuse c at wrong_argument None
 address_by c t at code other = gives None
 
 -- an argument of a VAR parameter that is no open array
@@ -61,7 +63,8 @@ by_address c t at x = address_by c t at x.code x.operand
 -- ---- open arrays
 
 -- an array whose elements are of this type, as the argument of an open array; `kind` is the meaning of the array's row
-abbrev pub alike : Context → (want : Place) → (at : ℕ) → Coded → (kind : RowMeaning) → (elem : Place) → Gives (Option Part)
+abbrev pub alike : Context → (want : Place) → (at : ℕ) → Coded → (kind : RowMeaning) → (elem : Place)
+    → Gives (Option Part)
 alike c want at x kind elem =
     if is_broken c.scene elem then gives None else
     if is_same c.scene elem want then gives (Some (x.code ⨟ high_code c.scene x kind)) else

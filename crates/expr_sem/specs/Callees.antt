@@ -32,12 +32,14 @@ IsCallable f ns other = Unit {0}
 
 abbrev pub called_in : List Node → Callable → calls.Called
 called_in ns (Standard f) = calls.standard_call f
-called_in ns (Procedure p) = calls.procedure_call (map parameter_view p.params.items) (part ns p.before) p.instr p.result p.more
+called_in ns (Procedure p) =
+    calls.procedure_call (map parameter_view p.params.items) (part ns p.before) p.instr p.result p.more
 called_in ns (Lacking ps) = calls.lacking_call (map parameter_view ps.items)
 called_in ns Nothing = calls.no_call
 
 -- a call of something of these parameters and this result with so many arguments
-abbrev pub allowed_by : Context → (at : ℕ) → (is_wanted : Bool) → (count : ℕ) → List parts.Parameter → Option Place → calls.Called → Gives calls.Called
+abbrev pub allowed_by : Context → (at : ℕ) → (is_wanted : Bool) → (count : ℕ) → List parts.Parameter → Option Place
+    → calls.Called → Gives calls.Called
 allowed_by c at is_wanted n ps result what = calls.allowed c at is_wanted (is_some result) (n == length ps) what
 
 -- a call of a procedure of these parameters and this result
@@ -47,12 +49,15 @@ target_called scene ps result (Some p) = calls.procedure_call ps none (calls.cal
 
 -- a call of a procedure value, by the cells of all arguments and the code of the value
 abbrev pub value_called : List parts.Parameter → Option Place → (cells : ℕ) → Part → calls.Called
-value_called ps result cells before = calls.procedure_call ps before (CallVar cells (calls.result_cells result)) result 1
+value_called ps result cells before =
+    calls.procedure_call ps before (CallVar cells (calls.result_cells result)) result 1
 
 -- a call of a procedure variable whose address this code gives
 abbrev pub variable_called : Scene → List parts.Parameter → Option Place → Part → calls.Called
 variable_called scene ps result code = value_called ps result (calls.cells_of_all scene ps) (code ⨟ plain (Load ∷ []))
 
 -- such a call with so many arguments
-abbrev pub variable_allowed : Context → (at : ℕ) → (is_wanted : Bool) → (count : ℕ) → Part → List parts.Parameter → Option Place → Gives calls.Called
-variable_allowed c at is_wanted n code ps result = allowed_by c at is_wanted n ps result (variable_called c.scene ps result code)
+abbrev pub variable_allowed : Context → (at : ℕ) → (is_wanted : Bool) → (count : ℕ) → Part → List parts.Parameter
+    → Option Place → Gives calls.Called
+variable_allowed c at is_wanted n code ps result =
+    allowed_by c at is_wanted n ps result (variable_called c.scene ps result code)

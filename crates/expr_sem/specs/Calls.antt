@@ -1,9 +1,10 @@
--- What a call calls, and its code: of a procedure variable its value first, then the arguments in order, then the call. A
--- call that stands where a value is wanted is of what gives a value, a call that is a statement of what gives none; and it
--- has as many arguments as there are parameters. Where something was refused before, the arguments are looked at for their
--- own diagnostics alone. Of a heading that the module lacks, which is refused elsewhere, the arguments stand beside the
--- parameters all the same, and the call is in error.
-use Rattle.std.specs.Prelude.{ℕ, ◌+◌, ◌==◌, not, Bool, true, false, List, [], ◌∷◌, length, if◌then◌else◌, Option, Some, None, is_some}
+-- What a call calls, and its code: of a procedure variable its value first, then the arguments in order, then the
+-- call. A call that stands where a value is wanted is of what gives a value, a call that is a statement of what gives
+-- none; and it has as many arguments as there are parameters. Where something was refused before, the arguments are
+-- looked at for their own diagnostics alone. Of a heading that the module lacks, which is refused elsewhere, the
+-- arguments stand beside the parameters all the same, and the call is in error.
+use Rattle.std.specs.Prelude.{ℕ, ◌+◌, ◌==◌, not, Bool, true, false, List, [], ◌∷◌, length, if◌then◌else◌, Option, Some}
+use Rattle.std.specs.Prelude.{None, is_some}
 use Rattle.m2_base.specs.Gives.{Gives, gives}
 use Rattle.m2_base.specs.declared.rows.Place.{Place}
 use Rattle.m2_base.specs.Statics.Assignable.{is_open_array, is_procedure_type}
@@ -13,7 +14,8 @@ use Rattle.m2_base.specs.Statics.Diagnostics.{not_a_procedure, not_a_variable, w
 use Rattle.m2_base.specs.Statics.TypeParts.{Parameter, parameters, result_of_type}
 use Rattle.m2_base.specs.Statics.Types.{is_broken}
 use Rattle.m2_base.specs.declared.builtins.Builtin.{Builtin}
-use Rattle.m2_base.specs.declared.operands.Operand.TheVariants.{Computed, InError, ModuleName, Procedure, StandardProcedure, Variable}
+use Rattle.m2_base.specs.declared.operands.Operand.TheVariants.{Computed, InError, ModuleName, Procedure}
+use Rattle.m2_base.specs.declared.operands.Operand.TheVariants.{StandardProcedure, Variable}
 use Rattle.m2_base.specs.declared.operands.Operand.{Operand}
 use Rattle.code_form.specs.declared.instr.Instr.{Instr}
 use Rattle.code_form.specs.declared.instr.Instr.TheVariants.{Load, Call, CallX, CallVar}
@@ -41,16 +43,18 @@ result_cells (Some t) = 1
 
 -- ---- what is called
 
--- A standard procedure with its arguments; or a procedure or a procedure value, with its parameters, the code before the
--- arguments, the instruction, the result, and how many operands the call takes beside the arguments; or a procedure that the
--- module lacks, with its parameters; or nothing, where a diagnostic or a part in error came before.
+-- A standard procedure with its arguments; or a procedure or a procedure value, with its parameters, the code before
+-- the arguments, the instruction, the result, and how many operands the call takes beside the arguments; or a
+-- procedure that the module lacks, with its parameters; or nothing, where a diagnostic or a part in error came before.
 pub data Called : Type 0 where
   standard_call : Builtin → Called
-  procedure_call : (params : List Parameter) → (before : Part) → (calls : Instr) → (result : Option Place) → (more : ℕ) → Called
+  procedure_call : (params : List Parameter) → (before : Part) → (calls : Instr) → (result : Option Place) → (more : ℕ)
+      → Called
   lacking_call : (params : List Parameter) → Called
   no_call : Called
 
--- how many static links lead from a block to the frame that encloses a procedure of this scope; none for one of a module
+-- how many static links lead from a block to the frame that encloses a procedure of this scope;
+-- none for one of a module
 abbrev pub links_to : Block → (scope : ℕ) → ℕ
 links_to b s = if level_of b s == 0 then 0 else links_out b s
 
@@ -67,7 +71,8 @@ is_same_truth false b = not b
 
 -- a call is refused at the designator's first token, unless it gives a value where one is wanted, and has as many
 -- arguments as are taken
-abbrev pub allowed : Context → (at : ℕ) → (is_wanted : Bool) → (gives_value : Bool) → (is_count : Bool) → Called → Gives Called
+abbrev pub allowed : Context → (at : ℕ) → (is_wanted : Bool) → (gives_value : Bool) → (is_count : Bool) → Called
+    → Gives Called
 allowed c at is_wanted gives_value is_count what =
     if not (is_same_truth is_wanted gives_value) then refuse c at not_a_procedure no_call else
     if not is_count then refuse c at wrong_count no_call else
@@ -87,7 +92,8 @@ of_target scene t (Some p) = procedure_call (parameters scene t) none (call_inst
 abbrev pub of_variable : Scene → Place → Part → Called
 of_variable scene t code =
     procedure_call (parameters scene t) (code ⨟ plain (Load ∷ []))
-    (CallVar (cells_of_all scene (parameters scene t)) (result_cells (result_of_type scene t))) (result_of_type scene t) 1
+    (CallVar (cells_of_all scene (parameters scene t)) (result_cells (result_of_type scene t)))
+    (result_of_type scene t) 1
 
 -- by its operand, what something with this code is as what is called
 abbrev pub called_by : Context → (is_wanted : Bool) → (at count : ℕ) → Part → Operand → Gives Called
@@ -110,12 +116,14 @@ called c is_wanted at n x = called_by c is_wanted at n x.code x.operand
 -- ---- the call
 
 -- the code of a call: what comes before the arguments, the arguments, and the instruction
-abbrev pub call_code : Scene → List Parameter → (before : Part) → Instr → Option Place → (more : ℕ) → (args : Part) → Part
+abbrev pub call_code : Scene → List Parameter → (before : Part) → Instr → Option Place → (more : ℕ) → (args : Part)
+    → Part
 call_code scene ps before i result more args =
     before ⨟ args ⨟ call i (cells_of_all scene ps + more) (result_cells result)
 
 -- The call, once its arguments are there. Without one of them it is in error, and so it is where the result's type is.
-abbrev pub call_coded : Scene → List Parameter → (before : Part) → Instr → Option Place → (more : ℕ) → Option Part → Coded
+abbrev pub call_coded : Scene → List Parameter → (before : Part) → Instr → Option Place → (more : ℕ) → Option Part
+    → Coded
 call_coded scene ps before i result more None = in_error
 call_coded scene ps before i None more (Some args) = coded no_value (call_code scene ps before i None more args)
 call_coded scene ps before i (Some t) more (Some args) =

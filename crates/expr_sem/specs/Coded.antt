@@ -1,6 +1,6 @@
--- What an expression or a designator stands for, with its code: an operand beside the code that computes it. A constant is
--- pushed; a string is the address of its characters; a variable is loaded from its address, but an array or a record is
--- its address; a procedure is its value.
+-- What an expression or a designator stands for, with its code: an operand beside the code that computes it. A
+-- constant is pushed; a string is the address of its characters; a variable is loaded from its address, but an array
+-- or a record is its address; a procedure is its value.
 use Rattle.std.specs.Prelude.{ℕ, Bool, true, false, pos, List, [], ◌∷◌, if◌then◌else◌}
 use Rattle.m2_base.specs.declared.rows.Place.{Place}
 use Rattle.m2_base.specs.declared.rows.RowMeaning.{RowMeaning}

@@ -33,9 +33,12 @@ abbrev pub SeesWiths : {X : Type 0} → (state : X → State) → Coder X → Ty
 SeesWiths state c = Each (λ w. IsThere (frame_of state c) w.of) c.withs.now
 
 -- A coding, from an analysis in progress to what it is afterwards.
-abbrev pub Codes : {X T V : Type 0} → (state : X → State) → (old new : Coder X) → (answer : Result (Ask T) Memory) → (MayStand : Frame → List Node → T → Type 0) → (as_given : List Node → T → V) → (given : Context → Gives V) → Type 0
+abbrev pub Codes : {X T V : Type 0} → (state : X → State) → (old new : Coder X) → (answer : Result (Ask T) Memory)
+    → (MayStand : Frame → List Node → T → Type 0) → (as_given : List Node → T → V) → (given : Context → Gives V)
+    → Type 0
 Codes state old new answer MayStand as_given given =
-    Coding (state old.scopes.now) (state new.scopes.now) old.notes.now new.notes.now (nodes_of old) (nodes_of new) old.site.now answer MayStand as_given given
+    Coding (state old.scopes.now) (state new.scopes.now) old.notes.now new.notes.now (nodes_of old)
+    (nodes_of new) old.site.now answer MayStand as_given given
 
 -- It stands where it stood, and works on what it worked on.
 pub record Keeps {X : Type 0} (old new : Coder X) : Type 0 where

@@ -45,13 +45,16 @@ IsFragment f ns x = IsIn ns x
 abbrev pub with_types : List With → List Place
 with_types ws = map (λ w. w.of) ws
 
--- Previous notes stay, and each answer noted was found by a search. The scope that the answer waits for is incomplete, and
--- before the own one. The fragments made before stay. Where the texts are told, with rows of the site's item in hand, a
--- known answer and what is noted are the definition's, where each fragment counts as the part of code that it stands for. A
--- known answer may stand at the place.
-pub record Coding {T V : Type 0} (old new : State) (before after : Notes) (from to : List Node) (s : Site) (answer : Result (Ask T) Memory) (MayStand : Frame → List Node → T → Type 0) (as_given : List Node → T → V) (given : Context → Gives V) : Type 0 where
+-- Previous notes stay, and each answer noted was found by a search. The scope that the answer waits for is incomplete,
+-- and before the own one. The fragments made before stay. Where the texts are told, with rows of the site's item in
+-- hand, a known answer and what is noted are the definition's, where each fragment counts as the part of code that it
+-- stands for. A known answer may stand at the place.
+pub record Coding {T V : Type 0} (old new : State) (before after : Notes) (from to : List Node)
+    (s : Site) (answer : Result (Ask T) Memory) (MayStand : Frame → List Node → T → Type 0)
+    (as_given : List Node → T → V) (given : Context → Gives V) : Type 0 where
   pub works : Works old new before after
   pub waits : IfWaits answer (λ h. Waits old new h)
   pub grows : Grows from to
-  pub told : WhereTold old.frame (λ made. AreOfSite s made → IfKnown answer (λ x. Adds before after (given (context_of old.frame made s)) (as_given to x)))
+  pub told : WhereTold old.frame (λ made.
+      AreOfSite s made → IfKnown answer (λ x. Adds before after (given (context_of old.frame made s)) (as_given to x)))
   pub there : IfKnown answer (λ x. MayStand old.frame to x)

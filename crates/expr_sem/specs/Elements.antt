@@ -1,5 +1,5 @@
--- Elements of arrays, and what pointers point to. An index is assignable to the index type, of an open array to CARDINAL;
--- the machine checks that it is one of the array's. A pointer is loaded, and must not be NIL.
+-- Elements of arrays, and what pointers point to. An index is assignable to the index type, of an open array to
+-- CARDINAL; the machine checks that it is one of the array's. A pointer is loaded, and must not be NIL.
 use Rattle.std.specs.Prelude.{ℕ, pos, ◌||◌, [], ◌∷◌, if◌then◌else◌, Option, Some, None}
 use Rattle.m2_base.specs.Gives.{Gives, gives, and_then}
 use Rattle.m2_base.specs.declared.rows.Place.{Place}

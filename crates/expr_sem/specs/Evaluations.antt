@@ -57,18 +57,21 @@ abbrev pub KeepsPiece : Result (Ask (Option Operand)) Memory → Piece → Piece
 KeepsPiece (Ok (Known (Some o))) before after = Unit {0}
 KeepsPiece other before after = IsAsBefore before after
 
--- Previous notes stay, and each answer noted was found by a search. The scope that the answer waits for is incomplete, and
--- before the own one. Where the texts are told, with rows of the site's item in hand, a known answer is the operand that the
--- definition gives, or none where that is in error; what is noted is the definition's; no operand comes out where a diagnostic
--- is noted, and one comes out where none is, unless a row in sight has a part in error; and the piece has grown by this code of
--- what it gives. Unless an operand is known, the piece has what it had before.
-pub record Evaluates (old new : State) (before after : Notes) (from to : Piece) (ws : List With) (s : Site) (answer : Result (Ask (Option Operand)) Memory) (worth : Context → code.Coded → Part) (given : Context → Gives code.Coded) : Type 0 where
+-- Previous notes stay, and each answer noted was found by a search. The scope that the answer waits for is incomplete,
+-- and before the own one. Where the texts are told, with rows of the site's item in hand, a known answer is the
+-- operand that the definition gives, or none where that is in error; what is noted is the definition's; no operand
+-- comes out where a diagnostic is noted, and one comes out where none is, unless a row in sight has a part in error;
+-- and the piece has grown by this code of what it gives. Unless an operand is known, the piece has what it had before.
+pub record Evaluates (old new : State) (before after : Notes) (from to : Piece)
+    (ws : List With) (s : Site) (answer : Result (Ask (Option Operand)) Memory)
+    (worth : Context → code.Coded → Part) (given : Context → Gives code.Coded) : Type 0 where
   pub works : Works old new before after
   pub waits : IfWaits answer (λ h. Waits old new h)
   pub kept : KeepsPiece answer from to
   pub told : WhereTold old.frame (λ made. AreOfSite s made → let c = context_of old.frame made s in
       IfKnown answer (λ o. Adds before after (and_then (given c) (λ x. gives (unless_in_error x.operand))) o))
-  pub unrefused : WhereTold old.frame (λ made. AreOfSite s made → IfKnown answer (λ o. IfSome o (λ p. after.diags.items ≡ before.diags.items)))
+  pub unrefused : WhereTold old.frame (λ made.
+      AreOfSite s made → IfKnown answer (λ o. IfSome o (λ p. after.diags.items ≡ before.diags.items)))
   pub caused : WhereTold old.frame (λ made. AreOfSite s made → AreWhole (context_of old.frame made s).scene
       → IfKnown answer (λ o. IfNone o (after.diags.items ≡ before.diags.items → ⊥)))
   pub appended : WhereTold old.frame (λ made. AreOfSite s made → let c = context_of old.frame made s in

@@ -14,7 +14,8 @@ use Rattle.expr_sem.specs.Arguments.{after_argument, argument}
 use Rattle.expr_sem.specs.Calls.{Called, call_coded, called}
 use Rattle.expr_sem.specs.Coded.{Coded, in_error}
 use Rattle.expr_sem.specs.Elements.{select_element}
-use Rattle.expr_sem.specs.Expressions.{by_called, count_of_exprs, designated, elements, expression, looked_at, passed, standard, value}
+use Rattle.expr_sem.specs.Expressions.{by_called, count_of_exprs, designated, elements, expression, looked_at, passed}
+use Rattle.expr_sem.specs.Expressions.{standard, value}
 use Rattle.expr_sem.specs.Parts.{Part}
 use Rattle.expr_sem.specs.SetElements.{Elements, add_range, element_coded, no_elements_yet, set_coded}
 use Rattle.expr_sem.specs.StandardProcedures.{first_of_two, of_two_arguments}
@@ -33,14 +34,16 @@ type_before c withs d = and_then (designated c withs d) (λ x. set_type_of c (de
 
 -- a set of this type with these elements
 abbrev pub set_of : Context → (withs : List Place) → Place → Labels → Gives Coded
-set_of c withs t items = and_then (elements c withs (set_base c t) (no_elements_yet c t) items) (λ es. gives (set_coded t es))
+set_of c withs t items =
+    and_then (elements c withs (set_base c t) (no_elements_yet c t) items) (λ es. gives (set_coded t es))
 
 -- an expression as it is taken into a set
 abbrev pub member : Context → (withs : List Place) → (base : Place) → Expr → Gives Coded
 member c withs base e = and_then (value c withs e) (element_coded c base (expr_at e))
 
 -- the elements from a low one to this
-abbrev pub range_to : Context → (withs : List Place) → (base : Place) → Elements → (low : Coded) → Expr → Gives Elements
+abbrev pub range_to : Context → (withs : List Place) → (base : Place) → Elements → (low : Coded) → Expr
+    → Gives Elements
 range_to c withs base es low high = and_then (member c withs base high) (λ p. gives (add_range c es low p))
 
 -- what one index selects
@@ -55,7 +58,8 @@ behind_first (p ∷ ps) = ps
 -- the code of the arguments so far and of a further one, beside the first of these parameters
 abbrev pub next_passed : Context → (withs : List Place) → List Parameter → Option Part → Expr → Gives (Option Part)
 next_passed c withs [] code e = gives None
-next_passed c withs (p ∷ ps) code e = and_then (expression c withs e) (λ x. and_then (argument c p (expr_at e) x) (λ a. gives (after_argument code a)))
+next_passed c withs (p ∷ ps) code e =
+    and_then (expression c withs e) (λ x. and_then (argument c p (expr_at e) x) (λ a. gives (after_argument code a)))
 
 -- the code of the arguments, where none is missing for these parameters
 abbrev pub all_passed : List Parameter → Option Part → Option Part
@@ -68,19 +72,24 @@ first_argument c withs f e = and_then (expression c withs e) (first_of_two c f (
 
 -- what is called, with these arguments
 abbrev pub called_as : Context → (withs : List Place) → Exprs → Called → Gives Coded
-called_as c withs args what = by_called c what (λ f. standard c withs f args) (λ ps. passed c withs ps args) (looked_at c withs args)
+called_as c withs args what =
+    by_called c what (λ f. standard c withs f args) (λ ps. passed c withs ps args) (looked_at c withs args)
 
 -- something with these arguments; `is_wanted` tells whether the call stands where a value is wanted
 abbrev pub called_with : Context → (withs : List Place) → (is_wanted : Bool) → (at : ℕ) → Coded → Exprs → Gives Coded
-called_with c withs is_wanted at x args = and_then (called c is_wanted at (count_of_exprs args) x) (λ what. called_as c withs args what)
+called_with c withs is_wanted at x args =
+    and_then (called c is_wanted at (count_of_exprs args) x) (λ what. called_as c withs args what)
 
 -- a standard procedure, whose first argument is there, with its second
 abbrev pub second_argument : Context → (withs : List Place) → Builtin → (first_at : ℕ) → Coded → Expr → Gives Coded
-second_argument c withs f first_at v e = and_then (expression c withs e) (λ y. of_two_arguments c f first_at v (expr_at e) y)
+second_argument c withs f first_at v e =
+    and_then (expression c withs e) (λ y. of_two_arguments c f first_at v (expr_at e) y)
 
 -- a procedure with these arguments
-abbrev pub procedure : Context → (withs : List Place) → List Parameter → (before : Part) → Instr → Option Place → (more : ℕ) → Exprs → Gives Coded
-procedure c withs ps before calls result more args = and_then (passed c withs ps args) (λ codes. gives (call_coded c.scene ps before calls result more codes))
+abbrev pub procedure : Context → (withs : List Place) → List Parameter → (before : Part) → Instr → Option Place
+    → (more : ℕ) → Exprs → Gives Coded
+procedure c withs ps before calls result more args =
+    and_then (passed c withs ps args) (λ codes. gives (call_coded c.scene ps before calls result more codes))
 
 -- a procedure that the module lacks, with these arguments
 abbrev pub lacking : Context → (withs : List Place) → List Parameter → Exprs → Gives Coded

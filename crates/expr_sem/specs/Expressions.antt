@@ -8,7 +8,11 @@ use Rattle.m2_base.specs.Statics.Contexts.{Context}
 use Rattle.m2_base.specs.Statics.Operands.{string_length}
 use Rattle.m2_base.specs.Statics.Sets.{set_base, set_type_of}
 use Rattle.m2_base.specs.Statics.TypeParts.{Parameter}
-use Rattle.m2_base.specs.Trees.{Designator, Expr, ExprForm, Exprs, Label, Labels, Next, Nexts, Selector, Selectors, call_form, char_form, deref_selector, designator, designator_at, expr, expr_at, field_selector, index_selector, many_form, more_exprs, more_labels, more_nexts, more_selectors, name_form, next, no_exprs, no_labels, no_nexts, no_selectors, number_form, one_form, one_label, range_label, set_form, string_form, typed_set_form}
+use Rattle.m2_base.specs.Trees.{Designator, Expr, ExprForm, Exprs, Label, Labels, Next, Nexts, Selector, Selectors}
+use Rattle.m2_base.specs.Trees.{call_form, char_form, deref_selector, designator, designator_at, expr, expr_at}
+use Rattle.m2_base.specs.Trees.{field_selector, index_selector, many_form, more_exprs, more_labels, more_nexts}
+use Rattle.m2_base.specs.Trees.{more_selectors, name_form, next, no_exprs, no_labels, no_nexts, no_selectors}
+use Rattle.m2_base.specs.Trees.{number_form, one_form, one_label, range_label, set_form, string_form, typed_set_form}
 use Rattle.m2_base.specs.declared.builtins.Builtin.{Builtin}
 use Rattle.m2_base.specs.declared.operands.Operand.TheVariants.{Constant, StringConstant}
 use Rattle.expr_sem.specs.Arguments.{after_argument, argument}
@@ -32,9 +36,10 @@ abbrev pub count_of_exprs : Exprs → ℕ
 count_of_exprs no_exprs = 0
 count_of_exprs (more_exprs e es) = suc (count_of_exprs es)
 
--- What a call gives: as its standard procedure, with its arguments beside its parameters, or with its arguments looked at
--- alone. That of a procedure which the module lacks is in error, once its arguments are there.
-abbrev pub by_called : Context → Called → (Builtin → Gives Coded) → (List Parameter → Gives (Option Part)) → Gives Coded → Gives Coded
+-- What a call gives: as its standard procedure, with its arguments beside its parameters, or with its arguments looked
+-- at alone. That of a procedure which the module lacks is in error, once its arguments are there.
+abbrev pub by_called : Context → Called → (Builtin → Gives Coded) → (List Parameter → Gives (Option Part))
+    → Gives Coded → Gives Coded
 by_called c (standard_call f) standard passed looked = standard f
 by_called c (procedure_call ps before i result more) standard passed looked =
     and_then (passed ps) (λ args. gives (call_coded c.scene ps before i result more args))

@@ -1,5 +1,6 @@
 -- Fragments of code: the part of code that each stands for. A node is made of earlier ones.
-use Rattle.std.specs.Prelude.{◌≡◌, ℕ, ◌<◌, ℤ, List, [], ◌∷◌, ◌++◌, length, Some, Result, Ok, Err, slice_get, slice_index_or}
+use Rattle.std.specs.Prelude.{◌≡◌, ℕ, ◌<◌, ℤ, List, [], ◌∷◌, ◌++◌, length, Some, Result, Ok, Err, slice_get}
+use Rattle.std.specs.Prelude.{slice_index_or}
 use Rattle.m2_base.specs.Lists.{IsPrefixOf}
 use Rattle.m2_base.specs.declared.memory.Memory.{Memory}
 use Rattle.code_form.specs.declared.instr.Instr.{Instr}

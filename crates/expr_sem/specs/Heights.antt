@@ -1,7 +1,8 @@
--- How a part of code moves the stack's height, wherever it stands: from so many operands above some height to so many above
--- the same, never taking what is below; and each jump in it goes to an instruction of the part or to its end, where the
--- height is the one that the jump leaves.
-use Rattle.std.specs.Prelude.{◌≡◌, ℕ, Bool, true, false, ◌-◌, ◌≤◌, ℤ, pos, negsuc, List, [], ◌∷◌, Option, Some, None, ◌⊎◌}
+-- How a part of code moves the stack's height, wherever it stands: from so many operands above some height to so many
+-- above the same, never taking what is below; and each jump in it goes to an instruction of the part or to its end,
+-- where the height is the one that the jump leaves.
+use Rattle.std.specs.Prelude.{◌≡◌, ℕ, Bool, true, false, ◌-◌, ◌≤◌, ℤ, pos, negsuc, List, [], ◌∷◌, Option, Some, None}
+use Rattle.std.specs.Prelude.{◌⊎◌}
 use Rattle.code_form.specs.Bytes.{size}
 use Rattle.code_form.specs.Heights.{Step, after_step}
 use Rattle.code_form.specs.Valid.{jump_of}
@@ -12,8 +13,8 @@ use Rattle.m2_base.specs.declared.operands.Operand.{Operand}
 use Rattle.expr_sem.specs.Coded.{Coded}
 use Rattle.expr_sem.specs.Parts.{Part, Spot}
 
--- So many bytes on from a height before these steps there is an instruction, or the end, and the height there is the last
--- one given.
+-- So many bytes on from a height before these steps there is an instruction, or the end, and the height there is the
+-- last one given.
 abbrev pub Reaches : (bytes height : ℕ) → List Step → (there : ℕ) → Type 0
 Reaches j h [] k = (j ≡ 0) × (h ≡ k)
 Reaches j h (s ∷ ss) k = ((j ≡ 0) × (h ≡ k)) ⊎ ((size s.instr ≤ j) × Reaches (j - size s.instr) (after_step h s) ss k)
@@ -24,7 +25,8 @@ Jumps h None after ss = Unit {0}
 Jumps h (Some (pos j, gone)) after ss = (gone ≤ h) × Reaches j after ss (h - gone)
 Jumps h (Some (negsuc j, gone)) after ss = ⊥
 
--- from the first height on these steps find what they take, their jumps go where they may, and they end at the last height
+-- from the first height on these steps find what they take, their jumps go where they may,
+-- and they end at the last height
 abbrev pub Fine : (first : ℕ) → List Step → (last : ℕ) → Type 0
 Fine h [] k = h ≡ k
 Fine h (s ∷ ss) k = (s.takes ≤ h) × Jumps h (jump_of s.instr) (after_step h s) ss × Fine (after_step h s) ss k

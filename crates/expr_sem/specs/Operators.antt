@@ -1,6 +1,6 @@
--- The code of operators. What an operator gives is the static rule's; where that is constant there is no code. Else the
--- operands' values come from left to right, and then the instruction. The right side of AND and of OR is skipped where the
--- left one decides. A string of one character is a CHAR here.
+-- The code of operators. What an operator gives is the static rule's; where that is constant there is no code. Else
+-- the operands' values come from left to right, and then the instruction. The right side of AND and of OR is skipped
+-- where the left one decides. A string of one character is a CHAR here.
 use Rattle.std.specs.Prelude.{ℕ, List, [], ◌∷◌, if◌then◌else◌}
 use Rattle.m2_base.specs.Gives.{Gives, gives, and_then}
 use Rattle.m2_base.specs.Rows.{is_same_place}
@@ -13,9 +13,14 @@ use Rattle.m2_base.specs.Statics.Types.{base_of, kind_of}
 use Rattle.m2_base.specs.declared.trees.operators.Operator.{Operator}
 use Rattle.m2_base.specs.declared.operands.Operand.TheVariants.{Computed, Constant}
 use Rattle.m2_base.specs.declared.operands.Operand.{Operand}
-use Rattle.m2_base.specs.declared.trees.operators.Operator.TheVariants.{And, Div, Equal, Greater, GreaterEqual, Less, LessEqual, Minus, Mod, Not, Or, Plus, Slash, Times, Unequal}
+use Rattle.m2_base.specs.declared.trees.operators.Operator.TheVariants.{And, Div, Equal, Greater, GreaterEqual, Less}
+use Rattle.m2_base.specs.declared.trees.operators.Operator.TheVariants.{LessEqual, Minus, Mod, Not, Or, Plus, Slash}
+use Rattle.m2_base.specs.declared.trees.operators.Operator.TheVariants.{Times, Unequal}
 use Rattle.code_form.specs.declared.instr.Instr.{Instr}
-use Rattle.code_form.specs.declared.instr.Instr.TheVariants.{Add, Sub, Mul, Neg, Eq, Ne, Lt, Le, Gt, Ge, Union, Diff, Inter, SymDiff, Subset, Superset, AndJump, OrJump, Div as Quotient, Mod as Remainder, Not as Negation, In as Member}
+use Rattle.code_form.specs.declared.instr.Instr.TheVariants.{Add, Sub, Mul, Neg, Eq, Ne, Lt, Le, Gt, Ge, Union, Diff}
+use Rattle.code_form.specs.declared.instr.Instr.TheVariants.{Inter, SymDiff, Subset, Superset, AndJump, OrJump}
+use Rattle.code_form.specs.declared.instr.Instr.TheVariants.{Div as Quotient, Mod as Remainder, Not as Negation}
+use Rattle.code_form.specs.declared.instr.Instr.TheVariants.{In as Member}
 use Rattle.expr_sem.specs.Coded.{Coded, coded, bare, in_error, value_code, with_char}
 use Rattle.expr_sem.specs.Parts.{Part, plain, ◌⨟◌, skip}
 

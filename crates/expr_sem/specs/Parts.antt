@@ -1,7 +1,7 @@
 -- Parts of a block's code. A part is known once it is told where it stands: which temporary cell and which byte of the
--- block's data come next, and which cells have the addresses of the records of the open WITHs. What a part takes of cells
--- and bytes is handed on to the part after it, in text order. A jump goes by its distance, so a part is the same wherever
--- its instructions stand.
+-- block's data come next, and which cells have the addresses of the records of the open WITHs. What a part takes of
+-- cells and bytes is handed on to the part after it, in text order. A jump goes by its distance, so a part is the same
+-- wherever its instructions stand.
 use Rattle.std.specs.Prelude.{ℕ, ◌+◌, ℤ, pos, List, [], ◌∷◌, ◌++◌, length, map, nat_lt, if◌then◌else◌, slice_index}
 use Rattle.m2_base.specs.Statics.Cells.{capped, most_cells}
 use Rattle.code_form.specs.declared.instr.Instr.{Instr}

@@ -1,6 +1,7 @@
 -- Which procedure the code names where a procedure is called or is a value. The module's own procedures and its cells
 -- are those of its text and of its own definition; an import is known by its number.
-use Rattle.std.specs.Prelude.{ℕ, ◌-◌, ◌==◌, ◌&&◌, ◌||◌, not, Bool, false, nat_lt, if◌then◌else◌, [], ◌∷◌, Option, Some, None}
+use Rattle.std.specs.Prelude.{ℕ, ◌-◌, ◌==◌, ◌&&◌, ◌||◌, not, Bool, false, nat_lt, if◌then◌else◌, [], ◌∷◌, Option, Some}
+use Rattle.std.specs.Prelude.{None}
 use Rattle.m2_base.specs.Rows.{row_meaning}
 use Rattle.m2_base.specs.declared.rows.Place.{Place}
 use Rattle.m2_base.specs.declared.rows.RowMeaning.{RowMeaning}
@@ -15,8 +16,8 @@ abbrev pub import_number_beside : (own : Option ℕ) → (scope : ℕ) → ℕ
 import_number_beside None s = s
 import_number_beside (Some own) s = if nat_lt own s then s - 1 else s
 
--- the number of a definition module among the imports, from 1: all of them in the order of their scopes, without the own
--- definition
+-- the number of a definition module among the imports, from 1: all of them in the order of their scopes, without the
+-- own definition
 abbrev pub import_number : Block → (scope : ℕ) → ℕ
 import_number b s = import_number_beside b.own s
 

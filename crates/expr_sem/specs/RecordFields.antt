@@ -1,6 +1,6 @@
--- Names where a designator begins, and names behind a point. The fields of the records of the open WITHs, the innermost
--- first, come before the names of scopes. Behind a module the name is looked up in that module, behind a record it is a
--- field; a field is as many cells behind its record as its row says.
+-- Names where a designator begins, and names behind a point. The fields of the records of the open WITHs, the
+-- innermost first, come before the names of scopes. Behind a module the name is looked up in that module, behind a
+-- record it is a field; a field is as many cells behind its record as its row says.
 use Rattle.std.specs.Prelude.{ℕ, zero, suc, List, [], ◌∷◌, if◌then◌else◌, Option, Some, None}
 use Rattle.m2_base.specs.Gives.{Gives, gives, and_then}
 use Rattle.m2_base.specs.Rows.{row_meaning}
@@ -44,8 +44,8 @@ abbrev pub field_or : Scene → (k : ℕ) → Option Row → Option Coded → Op
 field_or scene k None outer = outer
 field_or scene k (Some f) outer = Some (field_coded scene (with_record k) f)
 
--- The field of this name in the first of these WITHs whose record has one. They are given by the types of their records,
--- the innermost first, and their numbers begin at k.
+-- The field of this name in the first of these WITHs whose record has one. They are given by the types of their
+-- records, the innermost first, and their numbers begin at k.
 abbrev pub with_field : Scene → (k : ℕ) → (withs : List Place) → (name : ℕ) → Option Coded
 with_field scene k [] name = None
 with_field scene k (t ∷ ts) name = field_or scene k (field_of scene t name) (with_field scene (suc k) ts name)
@@ -77,7 +77,8 @@ of_record c at code i t other = refuse c at not_a_record in_error
 
 -- by its operand, what a name behind a point selects of something with this code
 abbrev pub select_field_by : Context → (first at : ℕ) → Ident → Part → Operand → Gives Coded
-select_field_by c first at i code (ModuleName s) = and_then (use_of c (Some s) i.name i.at) (λ e. gives (entry_coded c e))
+select_field_by c first at i code (ModuleName s) =
+    and_then (use_of c (Some s) i.name i.at) (λ e. gives (entry_coded c e))
 select_field_by c first at i code (Variable t) = of_record c at code i t (kind_of c.scene t)
 select_field_by c first at i code InError = gives in_error
 select_field_by c first at i code NotConstant = gives in_error

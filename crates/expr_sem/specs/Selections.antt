@@ -25,11 +25,13 @@ abbrev pub number_or : (k : ℕ) → Option Row → Option (ℕ × Row) → Opti
 number_or k None outer = outer
 number_or k (Some r) outer = Some (k, r)
 
--- The number of the first of these WITHs whose record has a field of this name, and the field's row. Their numbers begin at k.
+-- The number of the first of these WITHs whose record has a field of this name, and the field's row.
+-- Their numbers begin at k.
 abbrev pub with_number : Scene → (k : ℕ) → (withs : List Place) → (name : ℕ) → Option (ℕ × Row)
 with_number scene k [] name = None
 with_number scene k (t ∷ ts) name = number_or k (field_of scene t name) (with_number scene (suc k) ts name)
 
 -- what the pointer at this address points to, by the type that it leads to
 abbrev pub pointed : Scene → Part → Place → Gives Coded
-pointed scene code t = if is_broken scene t then gives in_error else gives (coded (Variable t) (code ⨟ plain (Load ∷ Nil ∷ [])))
+pointed scene code t =
+    if is_broken scene t then gives in_error else gives (coded (Variable t) (code ⨟ plain (Load ∷ Nil ∷ [])))

@@ -1,5 +1,5 @@
--- The code of a set between brackets. A set whose elements are all constant is a constant. Any other begins as the empty
--- set, to which each element, the constant ones too, and each range is added in order.
+-- The code of a set between brackets. A set whose elements are all constant is a constant. Any other begins as the
+-- empty set, to which each element, the constant ones too, and each range is added in order.
 use Rattle.std.specs.Prelude.{ℕ, pos, [], ◌∷◌}
 use Rattle.m2_base.specs.Gives.{Gives, gives, and_then}
 use Rattle.m2_base.specs.declared.rows.Place.{Place}
@@ -11,7 +11,8 @@ use Rattle.code_form.specs.declared.instr.Instr.TheVariants.{Push, Union, Bit, S
 use Rattle.expr_sem.specs.Coded.{Coded, coded, bare, in_error, taken, value_code}
 use Rattle.expr_sem.specs.Parts.{Part, plain, none, ◌⨟◌}
 
--- What the elements make so far: the set by the static rule, and the code that adds each of them to the set on the stack.
+-- What the elements make so far: the set by the static rule, and the code that adds each
+-- of them to the set on the stack.
 pub record Elements : Type 0 where
   pub set : Operand
   pub code : Part

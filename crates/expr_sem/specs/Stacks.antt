@@ -43,6 +43,7 @@ behind (Skip c a) = a ∷ []
 behind other = []
 
 -- a form was appended, but for the fragments that it put on the stack
-pub record Visited (before after : Piece) (ws : List With) (ns : List Node) (form : Form) (rest more : List Fragment) : Type 0 where
+pub record Visited (before after : Piece) (ws : List With) (ns : List Node) (form : Form)
+    (rest more : List Fragment) : Type 0 where
   pub pushed : more ≡ rest ++ behind form
   pub same : ends_as after ws (remaining ns (behind form)) ≡ ends_as before ws (part_by (parts_after [] ns) form)

@@ -1,6 +1,6 @@
--- The code of the standard functions. What a function gives is the static rule's; where that is constant there is no code.
--- CHR, ORD and VAL are their argument, fitted to the result's type. The size of a variable, and the number of elements of
--- an array of fixed length, are pushed; no code is made of the variable.
+-- The code of the standard functions. What a function gives is the static rule's; where that is constant there is no
+-- code. CHR, ORD and VAL are their argument, fitted to the result's type. The size of a variable, and the number of
+-- elements of an array of fixed length, are pushed; no code is made of the variable.
 use Rattle.std.specs.Prelude.{ℕ, ℤ, pos, ◌-ℤ◌, List, [], ◌∷◌, if◌then◌else◌, Option, Some, None}
 use Rattle.m2_base.specs.Gives.{Gives, gives, and_then}
 use Rattle.m2_base.specs.Rows.{is_same_place}
@@ -19,7 +19,8 @@ use Rattle.m2_base.specs.declared.builtins.Builtin.{Builtin}
 use Rattle.m2_base.specs.declared.operands.Operand.TheVariants.{Computed, InError, NamedType, NotConstant, Variable}
 use Rattle.m2_base.specs.declared.operands.Operand.{Operand}
 use Rattle.code_form.specs.declared.instr.Instr.{Instr}
-use Rattle.code_form.specs.declared.instr.Instr.TheVariants.{Push, Eq, Mod as Remainder, Abs as Magnitude, Cap as Capital}
+use Rattle.code_form.specs.declared.instr.Instr.TheVariants.{Push, Eq, Mod as Remainder, Abs as Magnitude}
+use Rattle.code_form.specs.declared.instr.Instr.TheVariants.{Cap as Capital}
 use Rattle.expr_sem.specs.Coded.{Coded, coded, bare, in_error, value_code}
 use Rattle.expr_sem.specs.Fitting.{fitted_code}
 use Rattle.expr_sem.specs.Operators.{made, side_of}
@@ -41,7 +42,8 @@ high_code scene x other = x.high
 -- HIGH of a variable, by the meaning of its type
 abbrev pub high_of : Context → (at : ℕ) → Coded → RowMeaning → Gives Coded
 high_of c at x (Array i t s) =
-    if is_broken c.scene i then gives in_error else gives (coded (Computed cardinal) (high_code c.scene x (Array i t s)))
+    if is_broken c.scene i then gives in_error
+    else gives (coded (Computed cardinal) (high_code c.scene x (Array i t s)))
 high_of c at x (OpenArray t) = gives (coded (Computed cardinal) (high_code c.scene x (OpenArray t)))
 high_of c at x other = refuse c at wrong_argument in_error
 
@@ -58,7 +60,8 @@ as_variable c at x = as_variable_by c at x x.operand
 
 -- HIGH of an argument that was a variable, or is in error
 abbrev pub high_of_variable : Context → (at : ℕ) → Coded → Gives Coded
-high_of_variable c at x = if is_bad x.operand then gives in_error else high_of c at x (kind_of c.scene (operand_type x.operand))
+high_of_variable c at x =
+    if is_bad x.operand then gives in_error else high_of c at x (kind_of c.scene (operand_type x.operand))
 
 -- ---- functions of values
 

@@ -1,7 +1,8 @@
--- The standard procedures that give no value: INC, DEC, INCL, EXCL, NEW, DISPOSE and HALT. Which standard procedures are
--- functions, and how many arguments each takes. What INC and DEC leave counts as an INTEGER or a CARDINAL, by the
+-- The standard procedures that give no value: INC, DEC, INCL, EXCL, NEW, DISPOSE and HALT. Which standard procedures
+-- are functions, and how many arguments each takes. What INC and DEC leave counts as an INTEGER or a CARDINAL, by the
 -- variable's base, and is fitted to the variable's type.
-use Rattle.std.specs.Prelude.{ℕ, zero, suc, ◌==◌, ◌||◌, Bool, true, false, pos, is_some, List, [], ◌∷◌, if◌then◌else◌, Some}
+use Rattle.std.specs.Prelude.{ℕ, zero, suc, ◌==◌, ◌||◌, Bool, true, false, pos, is_some, List, [], ◌∷◌, if◌then◌else◌}
+use Rattle.std.specs.Prelude.{Some}
 use Rattle.m2_base.specs.Gives.{Gives, gives, and_then}
 use Rattle.m2_base.specs.Rows.{is_same_place}
 use Rattle.m2_base.specs.declared.rows.Place.{Place}
@@ -23,7 +24,8 @@ use Rattle.m2_base.specs.declared.builtins.Builtin.{Builtin}
 use Rattle.m2_base.specs.declared.operands.Operand.TheVariants.{Computed, Constant, Variable}
 use Rattle.m2_base.specs.declared.operands.Operand.{Operand}
 use Rattle.code_form.specs.declared.instr.Instr.{Instr}
-use Rattle.code_form.specs.declared.instr.Instr.TheVariants.{Push, Load, Store, Dup, Add, Sub, Union, Diff, Bit, New as Room, Halt as Stop}
+use Rattle.code_form.specs.declared.instr.Instr.TheVariants.{Push, Load, Store, Dup, Add, Sub, Union, Diff, Bit}
+use Rattle.code_form.specs.declared.instr.Instr.TheVariants.{New as Room, Halt as Stop}
 use Rattle.expr_sem.specs.Coded.{Coded, coded, bare, in_error, taken, value_code}
 use Rattle.expr_sem.specs.Fitting.{check_of, fitted_code}
 use Rattle.expr_sem.specs.Operators.{side_of}

@@ -1,7 +1,11 @@
--- How many tokens syntax is made of, at the least: brackets round an expression aren't counted. Each label, each element of
--- a set, each index and each argument has the comma or the bracket behind it.
+-- How many tokens syntax is made of, at the least: brackets round an expression aren't counted. Each label, each
+-- element of a set, each index and each argument has the comma or the bracket behind it.
 use Rattle.std.specs.Prelude.{ℕ, ◌+◌}
-use Rattle.m2_base.specs.Trees.{Designator, Expr, ExprForm, Exprs, Label, Labels, Next, Nexts, Selector, Selectors, call_form, char_form, deref_selector, designator, expr, field_selector, index_selector, many_form, more_exprs, more_labels, more_nexts, more_selectors, name_form, next, no_exprs, no_labels, no_nexts, no_selectors, number_form, one_form, one_label, range_label, set_form, string_form, typed_set_form}
+use Rattle.m2_base.specs.Trees.{Designator, Expr, ExprForm, Exprs, Label, Labels, Next, Nexts, Selector, Selectors}
+use Rattle.m2_base.specs.Trees.{call_form, char_form, deref_selector, designator, expr, field_selector, index_selector}
+use Rattle.m2_base.specs.Trees.{many_form, more_exprs, more_labels, more_nexts, more_selectors, name_form, next}
+use Rattle.m2_base.specs.Trees.{no_exprs, no_labels, no_nexts, no_selectors, number_form, one_form, one_label}
+use Rattle.m2_base.specs.Trees.{range_label, set_form, string_form, typed_set_form}
 
 abbrev mutual
   -- of an expression

@@ -10,7 +10,8 @@ use Rattle.m2_base.specs.Statics.Types.{range_of, size_of}
 use Rattle.m2_base.specs.declared.operands.Operand.{Operand}
 use Rattle.m2_base.specs.declared.rows.Place.{Place}
 use Rattle.code_form.specs.declared.instr.Instr.{Instr}
-use Rattle.code_form.specs.declared.instr.Instr.TheVariants.{Push, Eq, Mod as Remainder, Abs as Magnify, Cap as Capitalise}
+use Rattle.code_form.specs.declared.instr.Instr.TheVariants.{Push, Eq, Mod as Remainder, Abs as Magnify}
+use Rattle.code_form.specs.declared.instr.Instr.TheVariants.{Cap as Capitalise}
 use Rattle.const_eval.specs.Calls.{of_value}
 use Rattle.const_eval.specs.Sites.{IsOperand}
 use Rattle.const_eval.specs.declared.calls.ValueFunction.{ValueFunction}

@@ -11,7 +11,8 @@ use Rattle.m2_base.specs.Statics.Diagnostics.{not_a_procedure_value, not_a_varia
 use Rattle.m2_base.specs.Statics.Operands.{is_bad, is_string}
 use Rattle.m2_base.specs.Statics.Ranges.{Range, is_within}
 use Rattle.m2_base.specs.Statics.Types.{is_broken, kind_of, range_of}
-use Rattle.m2_base.specs.declared.operands.Operand.TheVariants.{Constant, ModuleName, NamedType, Procedure, StandardProcedure}
+use Rattle.m2_base.specs.declared.operands.Operand.TheVariants.{Constant, ModuleName, NamedType, Procedure}
+use Rattle.m2_base.specs.declared.operands.Operand.TheVariants.{StandardProcedure}
 use Rattle.m2_base.specs.declared.operands.Operand.{Operand}
 use Rattle.expr_sem.specs.Coded.{Coded, in_error, taken}
 
@@ -46,8 +47,8 @@ has_broken_part scene other = false
 abbrev pub is_passed_over : Scene → (to : Place) → Operand → Bool
 is_passed_over scene to o = is_bad o || is_broken scene to || (is_string o && has_broken_part scene (kind_of scene to))
 
--- A value that a variable of a type takes, as it is taken: it must be assignable, or else is refused with this code, and a
--- constant must lie in the type's range.
+-- A value that a variable of a type takes, as it is taken: it must be assignable, or else is refused with this code,
+-- and a constant must lie in the type's range.
 abbrev pub assigned_to : Context → (to : Place) → (at code : ℕ) → Coded → Gives Coded
 assigned_to c to at code x =
     if is_passed_over c.scene to x.operand then gives in_error else

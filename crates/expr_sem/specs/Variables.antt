@@ -1,6 +1,6 @@
--- Where a variable is. A module's variable is at a cell of that module; one of a procedure at a cell of its frame, reached
--- over as many static links as levels lie between. The cell of a variable by address, and the first cell of an open
--- array, have the address; the second cell of an open array has the number of its elements less 1.
+-- Where a variable is. A module's variable is at a cell of that module; one of a procedure at a cell of its frame,
+-- reached over as many static links as levels lie between. The cell of a variable by address, and the first cell of an
+-- open array, have the address; the second cell of an open array has the number of its elements less 1.
 use Rattle.std.specs.Prelude.{ℕ, ◌+◌, ◌-◌, ◌==◌, List, [], ◌∷◌, if◌then◌else◌, Option, Some, None}
 use Rattle.m2_base.specs.Rows.{row_meaning}
 use Rattle.m2_base.specs.declared.rows.Mode.{Mode}

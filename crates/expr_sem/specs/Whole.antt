@@ -1,5 +1,5 @@
--- What is asked of the rows in sight so that whatever is in error was refused: no part of a row is in error. The row of parts
--- in error, which the standard scope has, may stand there; but no part of a row is it.
+-- What is asked of the rows in sight so that whatever is in error was refused: no part of a row is in error. The row
+-- of parts in error, which the standard scope has, may stand there; but no part of a row is it.
 use Rattle.std.specs.Prelude.{◌≡◌, ◌≢◌, ℕ, false, Some, slice_get}
 use Rattle.std.specs.Option.{IsSome}
 use Rattle.m2_base.specs.Lists.{WhereKept}
@@ -7,7 +7,8 @@ use Rattle.m2_base.specs.Rows.{row_meaning}
 use Rattle.m2_base.specs.declared.rows.Place.{Place}
 use Rattle.m2_base.specs.declared.rows.Row.{Row}
 use Rattle.m2_base.specs.declared.rows.RowMeaning.{RowMeaning}
-use Rattle.m2_base.specs.declared.rows.RowMeaning.TheVariants.{Alias, Array, Const, Field, Module, OpenArray, Param, Pointer, Proc, ProcType, Set, Standard, TypeName, Var}
+use Rattle.m2_base.specs.declared.rows.RowMeaning.TheVariants.{Alias, Array, Const, Field, Module, OpenArray, Param}
+use Rattle.m2_base.specs.declared.rows.RowMeaning.TheVariants.{Pointer, Proc, ProcType, Set, Standard, TypeName, Var}
 use Rattle.m2_base.specs.Standard.{standard_rows}
 use Rattle.m2_base.specs.Statics.Contexts.{Scene, row_at}
 use Rattle.m2_base.specs.Statics.TypeParts.{named_target}
@@ -19,8 +20,8 @@ use Rattle.expr_sem.specs.ProcedureNames.{target_of_procedure}
 abbrev pub IsWholeType : Scene → Place → Type 0
 IsWholeType scene t = is_broken scene t ≡ false
 
--- No part of a type, a field or a parameter of this meaning is in error. A pointer may lead to the row of a type's name, whose
--- type counts then.
+-- No part of a type, a field or a parameter of this meaning is in error. A pointer may lead to the row of a type's
+-- name, whose type counts then.
 abbrev pub HasWholeParts : Scene → RowMeaning → Type 0
 HasWholeParts scene (Field t offset own name) = IsWholeType scene t
 HasWholeParts scene (Param t by_ref own) = IsWholeType scene t
@@ -36,9 +37,9 @@ abbrev pub IsNoAlias : RowMeaning → Type 0
 IsNoAlias (Alias p) = ⊥
 IsNoAlias other = Unit {0}
 
--- What a name may stand for: a constant, a type or a variable whose type isn't in error; a procedure, where a heading of the
--- own definition has its procedure in the module; a module or a standard procedure; or an alias of a row with a name, which
--- is no alias itself.
+-- What a name may stand for: a constant, a type or a variable whose type isn't in error; a procedure, where a heading
+-- of the own definition has its procedure in the module; a module or a standard procedure; or an alias of a row with a
+-- name, which is no alias itself.
 abbrev pub IsWholeName : Scene → (name : ℕ) → RowMeaning → Type 0
 IsWholeName scene name (Const t v len) = IsWholeType scene t
 IsWholeName scene name (TypeName t) = IsWholeType scene t

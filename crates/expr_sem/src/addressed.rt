@@ -18,7 +18,9 @@ use m2_base::{Ask, Memory, Operand, Place};
 
 /// A variable of this type, with the code of its address.
 pub fn variable_at(of: Place, made: Result<Fragment, Memory>) -> Result<Ask<Coded>, Memory>
-    ensures { (state : State) (notes : Notes) (s : Site) (from to : List Node) (p : Part) → IsThere state.frame of → IsMade from to made p → Coding state state notes notes from to s result IsCoded coded_in (λ c. gives (coded (Variable of) p)) }
+    ensures { (state : State) (notes : Notes) (s : Site) (from to : List Node) (p : Part)
+        → IsThere state.frame of → IsMade from to made p
+        → Coding state state notes notes from to s result IsCoded coded_in (λ c. gives (coded (Variable of) p)) }
 {
     match made {
         Ok(code) => Ok(Ask::Known(Coded {
@@ -36,7 +38,10 @@ pub fn open_at(
     high: Fragment,
     made: Result<Fragment, Memory>,
 ) -> Result<Ask<Coded>, Memory>
-    ensures { (state : State) (notes : Notes) (s : Site) (from mid to : List Node) (p q : Part) → IsThere state.frame of → Grows from mid → IsFragmentOf mid high q → IsMade mid to made p → Coding state state notes notes from to s result IsCoded coded_in (λ c. gives (record { operand = Variable of; code = p; high = q })) }
+    ensures { (state : State) (notes : Notes) (s : Site) (from mid to : List Node) (p q : Part)
+        → IsThere state.frame of → Grows from mid → IsFragmentOf mid high q
+        → IsMade mid to made p → Coding state state notes notes from to s result IsCoded coded_in
+        (λ c. gives (record { operand = Variable of; code = p; high = q })) }
 {
     match made {
         Ok(code) => Ok(Ask::Known(Coded {

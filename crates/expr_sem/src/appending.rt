@@ -52,7 +52,8 @@ fn push_bytes(piece: &mut Piece, characters: &Vec<u8>, last: u32) -> Result<(), 
     ensures steps { piece.new.steps ≡ piece.old.steps }
     ensures cell { piece.new.cell ≡ piece.old.cell }
     ensures byte { piece.new.byte ≡ piece.old.byte }
-    ensures ok { OnOk result (piece.new.bytes.items ≡ piece.old.bytes.items ++ unless_too_many last (characters.now.items ++ 0 ∷ [])) }
+    ensures ok { OnOk result
+        (piece.new.bytes.items ≡ piece.old.bytes.items ++ unless_too_many last (characters.now.items ++ 0 ∷ [])) }
 {
     if last < TOO_MANY_CELLS {
         piece.bytes.extend_from_slice(characters)?;
@@ -64,7 +65,8 @@ fn push_bytes(piece: &mut Piece, characters: &Vec<u8>, last: u32) -> Result<(), 
 /// Appends the address of these characters, and the characters to the data.
 fn push_text(piece: &mut Piece, characters: &Vec<u8>) -> Result<(), Memory>
     ensures begins { Begins piece.old piece.new }
-    ensures ok { (ws : List OpenWith) → OnOk result (Appended piece.old piece.new ws (spec_text characters.now.items)) }
+    ensures ok { (ws : List OpenWith)
+        → OnOk result (Appended piece.old piece.new ws (spec_text characters.now.items)) }
 {
     let first = piece.byte;
     let last = capped_sum(first, characters.len() + 1);
@@ -86,7 +88,8 @@ fn moved(length: usize, size: u32) -> u32
 /// Appends the address of temporary cells with a copy of these characters.
 fn push_copy(piece: &mut Piece, size: u32, characters: &Vec<u8>) -> Result<(), Memory>
     ensures begins { Begins piece.old piece.new }
-    ensures ok { (ws : List OpenWith) → OnOk result (Appended piece.old piece.new ws (spec_copy size characters.now.items)) }
+    ensures ok { (ws : List OpenWith)
+        → OnOk result (Appended piece.old piece.new ws (spec_copy size characters.now.items)) }
 {
     let first = piece.cell;
     let moved = moved(characters.len(), size);
@@ -119,7 +122,8 @@ fn push_record(piece: &mut Piece, number: u32, withs: &[With]) -> Result<(), Mem
 /// Appends the jump over code of this length.
 fn push_jump(piece: &mut Piece, connective: Connective, size: u64) -> Result<(), Memory>
     ensures begins { Begins piece.old piece.new }
-    ensures ok { (ws : List OpenWith) → OnOk result (Appended piece.old piece.new ws (plain (jump_of connective (pos size) ∷ []))) }
+    ensures ok { (ws : List OpenWith)
+        → OnOk result (Appended piece.old piece.new ws (plain (jump_of connective (pos size) ∷ []))) }
 {
     let Ok(distance) = i32::try_from(size) else {
         return Err(Memory);
@@ -138,7 +142,8 @@ fn visit(
     requires sound { AreSound fragments.now.nodes.items }
     requires there { IsMadeOf (length fragments.now.nodes.items) form.now }
     ensures begins { Begins piece.old piece.new }
-    ensures ok { OnOk result (Visited piece.old piece.new withs.now fragments.now.nodes.items form.now rest.old.items rest.new.items) }
+    ensures ok { OnOk result
+        (Visited piece.old piece.new withs.now fragments.now.nodes.items form.now rest.old.items rest.new.items) }
 {
     match form {
         Form::One(step) => push_step(piece, *step),

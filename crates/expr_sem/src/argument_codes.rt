@@ -26,7 +26,8 @@ pub(crate) fn behind_first(params: &[Parameter]) -> &[Parameter]
 
 /// The code of the arguments, where none is missing for these parameters.
 pub(crate) fn all_passed(params: &[Parameter], code: Option<Fragment>) -> Option<Fragment>
-    ensures told { (nodes : List Node) → argument_in nodes result ≡ spec_all (map parameter_view params.now) (argument_in nodes code) }
+    ensures told { (nodes : List Node)
+        → argument_in nodes result ≡ spec_all (map parameter_view params.now) (argument_in nodes code) }
     ensures there { (f : Frame) (nodes : List Node) → IsArgument f nodes code → IsArgument f nodes result }
 {
     match params {
@@ -41,7 +42,10 @@ pub(crate) fn joined(
     argument: Option<Fragment>,
     fragments: &mut Fragments,
 ) -> Result<Ask<Option<Fragment>>, Memory>
-    ensures { (state : State) (notes : NotesOf) (site : SiteOf) → Coding state state notes notes fragments.old.nodes.items fragments.new.nodes.items site result IsArgument argument_in (λ c. gives (after_argument (argument_in fragments.old.nodes.items code) (argument_in fragments.old.nodes.items argument))) }
+    ensures { (state : State) (notes : NotesOf) (site : SiteOf)
+        → Coding state state notes notes fragments.old.nodes.items fragments.new.nodes.items site result
+        IsArgument argument_in (λ c. gives (after_argument (argument_in fragments.old.nodes.items code)
+        (argument_in fragments.old.nodes.items argument))) }
 {
     let Some(first) = code else {
         return Ok(Ask::Known(None));

@@ -6,7 +6,11 @@ ghost use Rattle.m2_base.specs.Statics.Types.{kind_of};
 ghost use Rattle.code_form.specs.declared.instr.Instr.TheVariants.{Push};
 ghost use Rattle.const_eval.specs.Sites.{IsOperand};
 ghost use Rattle.expr_sem.specs.ArgumentCodes.{IsArgument, argument_in, parameter_view};
-ghost use Rattle.expr_sem.specs.Arguments.{alike as spec_alike, argument as spec_argument, array_argument as spec_array_argument, by_address as spec_address, by_value as spec_value, checked_mode as spec_checked, is_variable as spec_variable, open_argument as spec_open, string_copy as spec_copy};
+ghost use Rattle.expr_sem.specs.Arguments.{alike as spec_alike, argument as spec_argument};
+ghost use Rattle.expr_sem.specs.Arguments.{array_argument as spec_array_argument, by_address as spec_address};
+ghost use Rattle.expr_sem.specs.Arguments.{by_value as spec_value, checked_mode as spec_checked};
+ghost use Rattle.expr_sem.specs.Arguments.{is_variable as spec_variable, open_argument as spec_open};
+ghost use Rattle.expr_sem.specs.Arguments.{string_copy as spec_copy};
 ghost use Rattle.expr_sem.specs.Coded.{characters as spec_characters};
 ghost use Rattle.expr_sem.specs.Coders.{Codes, Keeps, SuitsPlace, frame_of, nodes_of};
 ghost use Rattle.expr_sem.specs.Codings.{Coding, IsCoded, coded_in};
@@ -54,7 +58,8 @@ fn refuse_argument(
     refusal: Diagnostic,
     notes: &mut Notes,
 ) -> Result<Ask<Option<Fragment>>, Memory>
-    ensures { (state : State) (nodes : List Node) → Coding state state notes.old notes.new nodes nodes site.now result IsArgument argument_in (λ c. spec_refuse c at (code_of refusal) None) }
+    ensures { (state : State) (nodes : List Node) → Coding state state notes.old notes.new nodes nodes site.now result
+        IsArgument argument_in (λ c. spec_refuse c at (code_of refusal) None) }
 {
     let _refused = analysed!(refused(site, at, refusal, notes));
     Ok(Ask::Known(None))
@@ -68,7 +73,8 @@ fn copy_string(
     fragments: &mut Fragments,
 ) -> Result<Fragment, Memory>
     requires named { name < length site.now.texts.now.names }
-    ensures { (source : Source) → source.spellings ≡ site.now.texts.now.names → IsMade fragments.old.nodes.items fragments.new.nodes.items result (spec_copy size (spec_characters source name)) }
+    ensures { (source : Source) → source.spellings ≡ site.now.texts.now.names → IsMade fragments.old.nodes.items
+        fragments.new.nodes.items result (spec_copy size (spec_characters source name)) }
 {
     let bytes = characters(site, name)?;
     fragments.string_copy(size, bytes)
@@ -81,7 +87,8 @@ impl<S: Scopes> Coder<'_, '_, S> {
         requires of { IsThere (frame_of S.state self.old) of }
         requires x { IsCoded (frame_of S.state self.old) (nodes_of self.old) x.coded }
         ensures keeps { Keeps self.old self.new }
-        ensures codes { Codes S.state self.old self.new result IsArgument argument_in (λ c. spec_value c of x.at (coded_in (nodes_of self.old) x.coded)) }
+        ensures codes { Codes S.state self.old self.new result IsArgument argument_in
+            (λ c. spec_value c of x.at (coded_in (nodes_of self.old) x.coded)) }
     {
         let taken = analysed!(self.assigned_to(of, Diagnostic::NotAssignable, x));
         match taken.operand {
@@ -116,7 +123,9 @@ fn by_address<S: Scopes>(
     requires suits { SuitsSite (S.state scopes.old).frame site.now }
     requires of { IsThere (S.state scopes.old).frame of }
     requires x { IsOperand (S.state scopes.old).frame x.coded.operand }
-    ensures { (nodes : List Node) → IsCoded (S.state scopes.old).frame nodes x.coded → Coding (S.state scopes.old) (S.state scopes.new) notes.old notes.new nodes nodes site.now result IsArgument argument_in (λ c. spec_address c of x.at (coded_in nodes x.coded)) }
+    ensures { (nodes : List Node) → IsCoded (S.state scopes.old).frame nodes x.coded
+        → Coding (S.state scopes.old) (S.state scopes.new) notes.old notes.new nodes nodes site.now result IsArgument
+        argument_in (λ c. spec_address c of x.at (coded_in nodes x.coded)) }
 {
     let Operand::Variable(variable) = x.coded.operand else {
         return Ok(Ask::Known(None));
@@ -129,8 +138,8 @@ fn by_address<S: Scopes>(
 }
 
 impl<S: Scopes> Coder<'_, '_, S> {
-    /// An array whose elements are of a type, as the argument of an open array: its address, and the number of its elements
-    /// less 1. `kind` is what its type's row says.
+    /// An array whose elements are of a type, as the argument of an open array: its address, and the number of its
+    /// elements less 1. `kind` is what its type's row says.
     fn alike(
         &mut self,
         want: Place,
@@ -144,7 +153,8 @@ impl<S: Scopes> Coder<'_, '_, S> {
         requires kind { IsKindHere (frame_of S.state self.old) kind }
         requires element { IsThere (frame_of S.state self.old) element }
         ensures keeps { Keeps self.old self.new }
-        ensures codes { Codes S.state self.old self.new result IsArgument argument_in (λ c. spec_alike c want x.at (coded_in (nodes_of self.old) x.coded) kind element) }
+        ensures codes { Codes S.state self.old self.new result IsArgument argument_in
+            (λ c. spec_alike c want x.at (coded_in (nodes_of self.old) x.coded) kind element) }
     {
         if asked!(is_broken(self.scopes, self.site.around, element)) {
             return Ok(Ask::Known(None));
@@ -169,7 +179,8 @@ impl<S: Scopes> Coder<'_, '_, S> {
         requires x { IsCoded (frame_of S.state self.old) (nodes_of self.old) x.coded }
         requires of { IsThere (frame_of S.state self.old) of }
         ensures keeps { Keeps self.old self.new }
-        ensures codes { Codes S.state self.old self.new result IsArgument argument_in (λ c. spec_array_argument c want x.at (coded_in (nodes_of self.old) x.coded) (kind_of c.scene of)) }
+        ensures codes { Codes S.state self.old self.new result IsArgument argument_in
+            (λ c. spec_array_argument c want x.at (coded_in (nodes_of self.old) x.coded) (kind_of c.scene of)) }
     {
         let (place, kind) = asked!(stand(self.scopes, self.site.around, of));
         has_small_ordinal(place);
@@ -201,7 +212,9 @@ fn push_string(
     fragments: &mut Fragments,
 ) -> Result<Fragment, Memory>
     requires named { name < length site.now.texts.now.names }
-    ensures { (source : Source) → source.spellings ≡ site.now.texts.now.names → IsMade fragments.old.nodes.items fragments.new.nodes.items result (spec_text (spec_characters source name) ⨟ plain (Push (pos (size - 1)) ∷ [])) }
+    ensures { (source : Source) → source.spellings ≡ site.now.texts.now.names
+        → IsMade fragments.old.nodes.items fragments.new.nodes.items result
+        (spec_text (spec_characters source name) ⨟ plain (Push (pos (size - 1)) ∷ [])) }
 {
     let address = string_value(site, name, fragments)?;
     instr_behind(address, push_length(size), fragments)
@@ -214,7 +227,8 @@ impl<S: Scopes> Coder<'_, '_, S> {
         requires want { IsThere (frame_of S.state self.old) want }
         requires x { IsCoded (frame_of S.state self.old) (nodes_of self.old) x.coded }
         ensures keeps { Keeps self.old self.new }
-        ensures codes { Codes S.state self.old self.new result IsArgument argument_in (λ c. spec_open c want x.at (coded_in (nodes_of self.old) x.coded) x.coded.operand) }
+        ensures codes { Codes S.state self.old self.new result IsArgument argument_in
+            (λ c. spec_open c want x.at (coded_in (nodes_of self.old) x.coded) x.coded.operand) }
     {
         match x.coded.operand {
             Operand::StringConstant(name, length) => {
@@ -235,7 +249,8 @@ impl<S: Scopes> Coder<'_, '_, S> {
         requires p { IsThere (frame_of S.state self.old) p.of }
         requires x { IsCoded (frame_of S.state self.old) (nodes_of self.old) x.coded }
         ensures keeps { Keeps self.old self.new }
-        ensures codes { Codes S.state self.old self.new result IsArgument argument_in (λ c. spec_checked c (parameter_view p) x.at (coded_in (nodes_of self.old) x.coded)) }
+        ensures codes { Codes S.state self.old self.new result IsArgument argument_in
+            (λ c. spec_checked c (parameter_view p) x.at (coded_in (nodes_of self.old) x.coded)) }
     {
         if is_bad(x.coded.operand) {
             return Ok(Ask::Known(None));
@@ -271,7 +286,8 @@ impl<S: Scopes> Coder<'_, '_, S> {
         requires p { IsThere (frame_of S.state self.old) p.of }
         requires x { IsCoded (frame_of S.state self.old) (nodes_of self.old) x }
         ensures keeps { Keeps self.old self.new }
-        ensures codes { Codes S.state self.old self.new result IsArgument argument_in (λ c. spec_argument c (parameter_view p) at (coded_in (nodes_of self.old) x)) }
+        ensures codes { Codes S.state self.old self.new result IsArgument argument_in
+            (λ c. spec_argument c (parameter_view p) at (coded_in (nodes_of self.old) x)) }
     {
         if p.by_ref {
             let variable = Placed { at, coded: x };

@@ -12,8 +12,12 @@ ghost use Rattle.code_form.specs.declared.instr.Instr.TheVariants.{Load};
 ghost use Rattle.const_eval.specs.Sites.{IsOperand};
 ghost use Rattle.expr_sem.specs.Coders.{Codes, Keeps, SuitsPlace, frame_of, nodes_of};
 ghost use Rattle.expr_sem.specs.ArgumentCodes.{IsArgument, argument_in, parameter_view};
-ghost use Rattle.expr_sem.specs.Calls.{allowed as spec_allowed, allowed_by_type, call_code as spec_call_code, call_coded as spec_call_coded, call_instr as spec_call_instr, called as spec_called, called_by, is_same_truth as spec_same, links_to as spec_links, no_call, of_target, result_cells as spec_result};
-ghost use Rattle.expr_sem.specs.Callees.{IsCallee, IsCallable, called_in, target_called, value_called, variable_allowed, variable_called};
+ghost use Rattle.expr_sem.specs.Calls.{allowed as spec_allowed, allowed_by_type, call_code as spec_call_code};
+ghost use Rattle.expr_sem.specs.Calls.{call_coded as spec_call_coded, call_instr as spec_call_instr};
+ghost use Rattle.expr_sem.specs.Calls.{called as spec_called, called_by, is_same_truth as spec_same};
+ghost use Rattle.expr_sem.specs.Calls.{links_to as spec_links, no_call, of_target, result_cells as spec_result};
+ghost use Rattle.expr_sem.specs.Callees.{IsCallee, IsCallable, called_in, target_called, value_called};
+ghost use Rattle.expr_sem.specs.Callees.{variable_allowed, variable_called};
 ghost use Rattle.expr_sem.specs.Coded.{coded, in_error};
 ghost use Rattle.expr_sem.specs.Codings.{Coding, IsCoded, IsFragment, coded_in};
 ghost use Rattle.expr_sem.specs.Fragments.{IsIn, IsMade, part};
@@ -49,8 +53,8 @@ use m2_base::{
 };
 use type_rules::{Form, form_of};
 
-/// A procedure or a procedure value that is called: its parameters, the code before the arguments, the instruction, the
-/// result, and how many operands the call takes beside the arguments.
+/// A procedure or a procedure value that is called: its parameters, the code before the arguments, the instruction,
+/// the result, and how many operands the call takes beside the arguments.
 #[derive(Drop)]
 pub struct Callee {
     pub params: Vec<Parameter>,
@@ -60,8 +64,8 @@ pub struct Callee {
     pub more: u64,
 }
 
-/// What a call calls; a procedure that the module lacks, with its parameters; nothing, where a diagnostic or a part in error
-/// came before.
+/// What a call calls; a procedure that the module lacks, with its parameters; nothing, where a diagnostic or a part in
+/// error came before.
 #[derive(Drop)]
 pub enum Callable {
     Standard(Builtin),
@@ -70,8 +74,8 @@ pub enum Callable {
     Nothing,
 }
 
-/// How a call is written: whether it stands where a value is wanted, its designator's first token, and the number of its
-/// arguments.
+/// How a call is written: whether it stands where a value is wanted, its designator's first token, and the number of
+/// its arguments.
 #[derive(Clone, Copy, Debug, PartialEq, Eq)]
 struct Wording {
     is_wanted: bool,
@@ -93,7 +97,8 @@ fn refused_call(
     refusal: Diagnostic,
     notes: &mut Notes,
 ) -> Result<Ask<Callable>, Memory>
-    ensures { (state : State) (nodes : List Node) → Coding state state notes.old notes.new nodes nodes site.now result IsCallable called_in (λ c. spec_refuse c at (code_of refusal) no_call) }
+    ensures { (state : State) (nodes : List Node) → Coding state state notes.old notes.new nodes nodes site.now result
+        IsCallable called_in (λ c. spec_refuse c at (code_of refusal) no_call) }
 {
     let _refused = analysed!(refused(site, at, refusal, notes));
     Ok(Ask::Known(Callable::Nothing))
@@ -106,8 +111,8 @@ fn is_same_truth(x: bool, y: bool) -> bool
     if x { y } else { !y }
 }
 
-/// What a call calls, unless it gives no value where one is wanted, or the other way round, or its arguments aren't as many
-/// as are taken.
+/// What a call calls, unless it gives no value where one is wanted, or the other way round, or its arguments aren't as
+/// many as are taken.
 fn allowed(
     site: &Site,
     call: Wording,
@@ -137,7 +142,9 @@ fn called_standard(
     name: u32,
     notes: &mut Notes,
 ) -> Result<Ask<Callable>, Memory>
-    ensures { (state : State) (nodes : List Node) (code : Part) → Coding state state notes.old notes.new nodes nodes site.now result IsCallable called_in (λ c. called_by c call.is_wanted call.at call.count code (operands.StandardProcedure name)) }
+    ensures { (state : State) (nodes : List Node) (code : Part)
+        → Coding state state notes.old notes.new nodes nodes site.now result IsCallable called_in
+        (λ c. called_by c call.is_wanted call.at call.count code (operands.StandardProcedure name)) }
 {
     let f = standard_procedure(name);
     let suiting = Suiting {
@@ -147,7 +154,8 @@ fn called_standard(
     allowed(site, call, suiting, Callable::Standard(f), notes)
 }
 
-/// How many static links lead from a block to the frame that encloses a procedure of a scope; none for one of a module.
+/// How many static links lead from a block to the frame that encloses a procedure of a scope;
+/// none for one of a module.
 fn links_to(around: &Around, scope: u32) -> u32
     ensures { result ≡ spec_links (block_of around.now) scope }
 {
@@ -160,7 +168,8 @@ fn links_to(around: &Around, scope: u32) -> u32
 
 /// The instruction that calls a procedure.
 fn call_instr(around: &Around, target: Target) -> Instr
-    ensures { (tables : List (List RowOf)) → result ≡ spec_call_instr (record { block = block_of around.now; tables = tables }) (target_view target) }
+    ensures { (tables : List (List RowOf))
+        → result ≡ spec_call_instr (record { block = block_of around.now; tables = tables }) (target_view target) }
 {
     if is_foreign(around, target) {
         Instr::CallX(import_of_target(around, target), target.number)
@@ -171,7 +180,9 @@ fn call_instr(around: &Around, target: Target) -> Instr
 
 /// A call of a procedure, which the module may lack.
 fn procedure_callable(around: &Around, signature: Signature, target: Option<Target>) -> Callable
-    ensures told { (tables : List (List RowOf)) (nodes : List Node) → called_in nodes result ≡ target_called (record { block = block_of around.now; tables = tables }) (map parameter_view signature.params.items) signature.result (option_map target_view target) }
+    ensures told { (tables : List (List RowOf)) (nodes : List Node)
+        → called_in nodes result ≡ target_called (record { block = block_of around.now; tables = tables })
+        (map parameter_view signature.params.items) signature.result (option_map target_view target) }
     ensures there { (f : Frame) (nodes : List Node) → IsSignature f signature → IsCallable f nodes result }
 {
     match target {
@@ -214,8 +225,10 @@ impl<S: Scopes> Coder<'_, '_, S> {
 
 /// A call of a procedure variable whose arguments have so many cells, by the code of its value.
 fn value_callable(signature: Signature, cells: u32, before: Fragment) -> Callable
-    ensures told { (nodes : List Node) → called_in nodes result ≡ value_called (map parameter_view signature.params.items) signature.result cells (part nodes before) }
-    ensures there { (f : Frame) (nodes : List Node) → IsSignature f signature → IsIn nodes before → IsCallable f nodes result }
+    ensures told { (nodes : List Node) → called_in nodes result
+        ≡ value_called (map parameter_view signature.params.items) signature.result cells (part nodes before) }
+    ensures there { (f : Frame) (nodes : List Node) → IsSignature f signature → IsIn nodes before
+        → IsCallable f nodes result }
 {
     Callable::Procedure(Callee {
         params: signature.params,
@@ -226,8 +239,8 @@ fn value_callable(signature: Signature, cells: u32, before: Fragment) -> Callabl
     })
 }
 
-/// A call of a procedure variable whose arguments have so many cells, by the code of its address. Where these are too many
-/// for an instruction, memory is wanted.
+/// A call of a procedure variable whose arguments have so many cells, by the code of its address. Where these are too
+/// many for an instruction, memory is wanted.
 fn loaded_callable(
     signature: Signature,
     cells: u64,
@@ -235,7 +248,10 @@ fn loaded_callable(
     fragments: &mut Fragments,
 ) -> Result<Ask<Callable>, Memory>
     requires code { IsIn fragments.old.nodes.items code }
-    ensures { (state : State) (notes : NotesOf) (site : SiteOf) → IsSignature state.frame signature → Coding state state notes notes fragments.old.nodes.items fragments.new.nodes.items site result IsCallable called_in (λ c. gives (value_called (map parameter_view signature.params.items) signature.result cells (part fragments.old.nodes.items code ⨟ plain (Load ∷ [])))) }
+    ensures { (state : State) (notes : NotesOf) (site : SiteOf) → IsSignature state.frame signature
+        → Coding state state notes notes fragments.old.nodes.items fragments.new.nodes.items site result IsCallable
+        called_in (λ c. gives (value_called (map parameter_view signature.params.items) signature.result cells
+        (part fragments.old.nodes.items code ⨟ plain (Load ∷ [])))) }
 {
     let Ok(cells) = u32::try_from(cells) else {
         return Err(Memory);
@@ -255,7 +271,10 @@ fn variable_callable<S: Scopes>(
     requires suits { SuitsSite (S.state scopes.old).frame site.now }
     requires signature { IsSignature (S.state scopes.old).frame signature }
     requires code { IsIn fragments.old.nodes.items code }
-    ensures { (notes : NotesOf) → Coding (S.state scopes.old) (S.state scopes.new) notes notes fragments.old.nodes.items fragments.new.nodes.items site.now result IsCallable called_in (λ c. gives (variable_called c.scene (map parameter_view signature.params.items) signature.result (part fragments.old.nodes.items code))) }
+    ensures { (notes : NotesOf)
+        → Coding (S.state scopes.old) (S.state scopes.new) notes notes fragments.old.nodes.items
+        fragments.new.nodes.items site.now result IsCallable called_in (λ c. gives (variable_called c.scene
+        (map parameter_view signature.params.items) signature.result (part fragments.old.nodes.items code))) }
 {
     let cells = analysed!(cells_of_all(scopes, site.around, &signature.params));
     loaded_callable(signature, cells, code, fragments)
@@ -273,7 +292,9 @@ impl<S: Scopes> Coder<'_, '_, S> {
         requires signature { IsSignature (frame_of S.state self.old) signature }
         requires code { IsIn (nodes_of self.old) code }
         ensures keeps { Keeps self.old self.new }
-        ensures codes { Codes S.state self.old self.new result IsCallable called_in (λ c. variable_allowed c call.at call.is_wanted call.count (part (nodes_of self.old) code) (map parameter_view signature.params.items) signature.result) }
+        ensures codes { Codes S.state self.old self.new result IsCallable called_in
+            (λ c. variable_allowed c call.at call.is_wanted call.count (part (nodes_of self.old) code)
+            (map parameter_view signature.params.items) signature.result) }
     {
         let suiting = Suiting {
             gives_value: signature.gives_value(),
@@ -300,7 +321,9 @@ impl<S: Scopes> Coder<'_, '_, S> {
         requires form { IsFormHere (frame_of S.state self.old) form }
         requires code { IsIn (nodes_of self.old) code }
         ensures keeps { Keeps self.old self.new }
-        ensures codes { Codes S.state self.old self.new result IsCallable called_in (λ c. variable_allowed c call.at call.is_wanted call.count (part (nodes_of self.old) code) (parameters_from c.scene form.of form.first) form.result) }
+        ensures codes { Codes S.state self.old self.new result IsCallable called_in
+            (λ c. variable_allowed c call.at call.is_wanted call.count (part (nodes_of self.old) code)
+            (parameters_from c.scene form.of form.first) form.result) }
     {
         let signature = analysed!(signature_by(self.scopes, self.site, form));
         self.called_by_signature(call, signature, code)
@@ -317,7 +340,8 @@ impl<S: Scopes> Coder<'_, '_, S> {
         requires of { IsThere (frame_of S.state self.old) of }
         requires code { IsIn (nodes_of self.old) code }
         ensures keeps { Keeps self.old self.new }
-        ensures codes { Codes S.state self.old self.new result IsCallable called_in (λ c. called_by c call.is_wanted call.at call.count (part (nodes_of self.old) code) (operands.Variable of)) }
+        ensures codes { Codes S.state self.old self.new result IsCallable called_in (λ c.
+            called_by c call.is_wanted call.at call.count (part (nodes_of self.old) code) (operands.Variable of)) }
     {
         match form_of(self.scopes, self.site.around, of) {
             Ask::Known(Some(form)) => self.called_by_form(call, form, code),
@@ -336,7 +360,8 @@ impl<S: Scopes> Coder<'_, '_, S> {
         requires suits { SuitsPlace S.state self.old }
         requires x { IsCoded (frame_of S.state self.old) (nodes_of self.old) x }
         ensures keeps { Keeps self.old self.new }
-        ensures codes { Codes S.state self.old self.new result IsCallable called_in (λ c. called_by c call.is_wanted call.at call.count (part (nodes_of self.old) x.code) x.operand) }
+        ensures codes { Codes S.state self.old self.new result IsCallable called_in
+            (λ c. called_by c call.is_wanted call.at call.count (part (nodes_of self.old) x.code) x.operand) }
     {
         match x.operand {
             Operand::StandardProcedure(name) => called_standard(self.site, call, name, self.notes),
@@ -355,8 +380,8 @@ impl<S: Scopes> Coder<'_, '_, S> {
         }
     }
 
-    /// What a call with so many arguments calls. `is_wanted` tells whether it stands where a value is wanted; `at` is the
-    /// designator's first token.
+    /// What a call with so many arguments calls. `is_wanted` tells whether it stands where a value is wanted; `at` is
+    /// the designator's first token.
     pub(crate) fn called(
         &mut self,
         is_wanted: bool,
@@ -367,7 +392,8 @@ impl<S: Scopes> Coder<'_, '_, S> {
         requires suits { SuitsPlace S.state self.old }
         requires x { IsCoded (frame_of S.state self.old) (nodes_of self.old) x }
         ensures keeps { Keeps self.old self.new }
-        ensures codes { Codes S.state self.old self.new result IsCallable called_in (λ c. spec_called c is_wanted at count (coded_in (nodes_of self.old) x)) }
+        ensures codes { Codes S.state self.old self.new result IsCallable called_in
+            (λ c. spec_called c is_wanted at count (coded_in (nodes_of self.old) x)) }
     {
         let call = Wording {
             is_wanted,
@@ -378,9 +404,11 @@ impl<S: Scopes> Coder<'_, '_, S> {
     }
 }
 
-/// The instruction that calls, with what it takes and leaves. Where it takes more than there are numbers, memory is wanted.
+/// The instruction that calls, with what it takes and leaves. Where it takes more than there are numbers,
+/// memory is wanted.
 fn call_step(callee: &Callee, cells: u64, fragments: &mut Fragments) -> Result<Fragment, Memory>
-    ensures { IsMade fragments.old.nodes.items fragments.new.nodes.items result (spec_call callee.now.instr (cells + callee.now.more) (spec_result callee.now.result)) }
+    ensures { IsMade fragments.old.nodes.items fragments.new.nodes.items result
+        (spec_call callee.now.instr (cells + callee.now.more) (spec_result callee.now.result)) }
 {
     let Some(takes) = cells.checked_add(callee.more) else {
         return Err(Memory);
@@ -401,7 +429,9 @@ fn call_made(
 ) -> Result<Fragment, Memory>
     requires before { IsIn fragments.old.nodes.items callee.now.before }
     requires args { IsIn fragments.old.nodes.items args }
-    ensures { IsMade fragments.old.nodes.items fragments.new.nodes.items result (part fragments.old.nodes.items callee.now.before ⨟ part fragments.old.nodes.items args ⨟ spec_call callee.now.instr (cells + callee.now.more) (spec_result callee.now.result)) }
+    ensures { IsMade fragments.old.nodes.items fragments.new.nodes.items result
+        (part fragments.old.nodes.items callee.now.before ⨟ part fragments.old.nodes.items args
+        ⨟ spec_call callee.now.instr (cells + callee.now.more) (spec_result callee.now.result)) }
 {
     let call = call_step(callee, cells, fragments)?;
     after_both(fragments, callee.before, args, call)
@@ -418,7 +448,10 @@ fn call_code<S: Scopes>(
     requires suits { SuitsSite (S.state scopes.old).frame site.now }
     requires callee { IsCallee (S.state scopes.old).frame fragments.old.nodes.items callee.now }
     requires args { IsIn fragments.old.nodes.items args }
-    ensures { (notes : NotesOf) → Coding (S.state scopes.old) (S.state scopes.new) notes notes fragments.old.nodes.items fragments.new.nodes.items site.now result IsFragment part (λ c. gives (spec_call_code c.scene (map parameter_view callee.now.params.items) (part fragments.old.nodes.items callee.now.before) callee.now.instr callee.now.result callee.now.more (part fragments.old.nodes.items args))) }
+    ensures { (notes : NotesOf) → Coding (S.state scopes.old) (S.state scopes.new) notes notes
+        fragments.old.nodes.items fragments.new.nodes.items site.now result IsFragment part (λ c.
+        gives (spec_call_code c.scene (map parameter_view callee.now.params.items) (part fragments.old.nodes.items
+        callee.now.before) callee.now.instr callee.now.result callee.now.more (part fragments.old.nodes.items args))) }
 {
     let cells = analysed!(cells_of_all(scopes, site.around, &callee.params));
     answered(call_made(callee, cells, args, fragments))
@@ -437,7 +470,9 @@ impl<S: Scopes> Coder<'_, '_, S> {
         requires operand { IsOperand (frame_of S.state self.old) operand }
         requires args { IsIn (nodes_of self.old) args }
         ensures keeps { Keeps self.old self.new }
-        ensures codes { Codes S.state self.old self.new result IsCoded coded_in (λ c. gives (coded operand (spec_call_code c.scene (map parameter_view callee.now.params.items) (part (nodes_of self.old) callee.now.before) callee.now.instr callee.now.result callee.now.more (part (nodes_of self.old) args)))) }
+        ensures codes { Codes S.state self.old self.new result IsCoded coded_in (λ c. gives (coded operand
+            (spec_call_code c.scene (map parameter_view callee.now.params.items) (part (nodes_of self.old)
+            callee.now.before) callee.now.instr callee.now.result callee.now.more (part (nodes_of self.old) args)))) }
     {
         let code = analysed!(call_code(self.scopes, self.site, callee, args, self.fragments));
         Ok(Ask::Known(Coded::new(operand, code)))
@@ -455,7 +490,10 @@ impl<S: Scopes> Coder<'_, '_, S> {
         requires of { IsThere (frame_of S.state self.old) of }
         requires args { IsIn (nodes_of self.old) args }
         ensures keeps { Keeps self.old self.new }
-        ensures codes { Codes S.state self.old self.new result IsCoded coded_in (λ c. gives (if spec_broken c.scene of then in_error else coded (operands.Computed of) (spec_call_code c.scene (map parameter_view callee.now.params.items) (part (nodes_of self.old) callee.now.before) callee.now.instr callee.now.result callee.now.more (part (nodes_of self.old) args)))) }
+        ensures codes { Codes S.state self.old self.new result IsCoded coded_in
+            (λ c. gives (if spec_broken c.scene of then in_error else coded (operands.Computed of)
+            (spec_call_code c.scene (map parameter_view callee.now.params.items) (part (nodes_of self.old)
+            callee.now.before) callee.now.instr callee.now.result callee.now.more (part (nodes_of self.old) args)))) }
     {
         match is_broken(self.scopes, self.site.around, of) {
             Ask::Known(true) => Ok(Ask::Known(Coded::in_error())),
@@ -473,7 +511,9 @@ impl<S: Scopes> Coder<'_, '_, S> {
         requires callee { IsCallee (frame_of S.state self.old) (nodes_of self.old) callee.now }
         requires args { IsIn (nodes_of self.old) args }
         ensures keeps { Keeps self.old self.new }
-        ensures codes { Codes S.state self.old self.new result IsCoded coded_in (λ c. gives (spec_call_coded c.scene (map parameter_view callee.now.params.items) (part (nodes_of self.old) callee.now.before) callee.now.instr callee.now.result callee.now.more (Some (part (nodes_of self.old) args)))) }
+        ensures codes { Codes S.state self.old self.new result IsCoded coded_in (λ c. gives (spec_call_coded c.scene
+            (map parameter_view callee.now.params.items) (part (nodes_of self.old) callee.now.before) callee.now.instr
+            callee.now.result callee.now.more (Some (part (nodes_of self.old) args)))) }
     {
         match callee.result {
             Some(of) => self.call_of_type(callee, of, args),
@@ -481,7 +521,8 @@ impl<S: Scopes> Coder<'_, '_, S> {
         }
     }
 
-    /// The call, once its arguments are there. Without one of them it is in error, and so it is where the result's type is.
+    /// The call, once its arguments are there. Without one of them it is in error,
+    /// and so it is where the result's type is.
     pub(crate) fn call_coded(
         &mut self,
         callee: &Callee,
@@ -491,7 +532,9 @@ impl<S: Scopes> Coder<'_, '_, S> {
         requires callee { IsCallee (frame_of S.state self.old) (nodes_of self.old) callee.now }
         requires args { IsArgument (frame_of S.state self.old) (nodes_of self.old) args }
         ensures keeps { Keeps self.old self.new }
-        ensures codes { Codes S.state self.old self.new result IsCoded coded_in (λ c. gives (spec_call_coded c.scene (map parameter_view callee.now.params.items) (part (nodes_of self.old) callee.now.before) callee.now.instr callee.now.result callee.now.more (argument_in (nodes_of self.old) args))) }
+        ensures codes { Codes S.state self.old self.new result IsCoded coded_in (λ c. gives (spec_call_coded c.scene
+            (map parameter_view callee.now.params.items) (part (nodes_of self.old) callee.now.before) callee.now.instr
+            callee.now.result callee.now.more (argument_in (nodes_of self.old) args))) }
     {
         match args {
             Some(args) => self.call_with(callee, args),

@@ -15,7 +15,8 @@ pub fn instr_behind(
     fragments: &mut Fragments,
 ) -> Result<Fragment, Memory>
     requires { IsIn fragments.old.nodes.items first }
-    ensures { IsMade fragments.old.nodes.items fragments.new.nodes.items result (part fragments.old.nodes.items first ⨟ plain (instr ∷ [])) }
+    ensures { IsMade fragments.old.nodes.items fragments.new.nodes.items result
+        (part fragments.old.nodes.items first ⨟ plain (instr ∷ [])) }
 {
     let last = fragments.one(instr)?;
     fragments.then(first, last)
@@ -40,7 +41,8 @@ pub fn after_both(
     requires x { IsIn fragments.old.nodes.items x }
     requires y { IsIn fragments.old.nodes.items y }
     requires last { IsIn fragments.old.nodes.items last }
-    ensures { IsMade fragments.old.nodes.items fragments.new.nodes.items result (part fragments.old.nodes.items x ⨟ part fragments.old.nodes.items y ⨟ part fragments.old.nodes.items last) }
+    ensures { IsMade fragments.old.nodes.items fragments.new.nodes.items result
+        (part fragments.old.nodes.items x ⨟ part fragments.old.nodes.items y ⨟ part fragments.old.nodes.items last) }
 {
     let rest = fragments.then(y, last)?;
     fragments.then(x, rest)
@@ -55,7 +57,8 @@ pub fn applied(
 ) -> Result<Fragment, Memory>
     requires x { IsIn fragments.old.nodes.items x }
     requires y { IsIn fragments.old.nodes.items y }
-    ensures { IsMade fragments.old.nodes.items fragments.new.nodes.items result (part fragments.old.nodes.items x ⨟ part fragments.old.nodes.items y ⨟ plain (instr ∷ [])) }
+    ensures { IsMade fragments.old.nodes.items fragments.new.nodes.items result
+        (part fragments.old.nodes.items x ⨟ part fragments.old.nodes.items y ⨟ plain (instr ∷ [])) }
 {
     let last = fragments.one(instr)?;
     after_both(fragments, x, y, last)

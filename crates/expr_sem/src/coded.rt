@@ -10,8 +10,8 @@ ghost use Rattle.const_eval.specs.Sites.{IsOperand};
 use crate::fragments::Fragment;
 use m2_base::Operand;
 
-/// An operand, and its code: that of a variable gives its address, that of a computed value gives it. `high` is of an open
-/// array alone: the code of the number of its elements less 1.
+/// An operand, and its code: that of a variable gives its address, that of a computed value gives it. `high` is of an
+/// open array alone: the code of the number of its elements less 1.
 #[derive(Clone, Copy, Debug, PartialEq, Eq)]
 pub struct Coded {
     pub operand: Operand,
@@ -30,7 +30,8 @@ impl Coded {
     /// An operand that is no open array, with its code.
     pub fn new(operand: Operand, code: Fragment) -> Coded
         ensures told { (nodes : List Node) → coded_in nodes result ≡ coded operand (part nodes code) }
-        ensures there { (f : Frame) (nodes : List Node) → IsOperand f operand → IsIn nodes code → IsCoded f nodes result }
+        ensures there { (f : Frame) (nodes : List Node) → IsOperand f operand → IsIn nodes code
+            → IsCoded f nodes result }
     {
         Coded {
             operand,
@@ -58,7 +59,8 @@ impl Coded {
     /// The same code for an operand as another rule takes it.
     pub fn taken(self, operand: Operand) -> Coded
         ensures told { (nodes : List Node) → coded_in nodes result ≡ spec_taken operand (coded_in nodes self) }
-        ensures there { (f : Frame) (nodes : List Node) → IsOperand f operand → IsCoded f nodes self → IsCoded f nodes result }
+        ensures there { (f : Frame) (nodes : List Node) → IsOperand f operand → IsCoded f nodes self
+            → IsCoded f nodes result }
     {
         Coded { operand, ..self }
     }

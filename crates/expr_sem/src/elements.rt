@@ -9,7 +9,8 @@ ghost use Rattle.m2_base.specs.Statics.Diagnostics.{not_assignable};
 ghost use Rattle.m2_base.specs.Statics.Operands.{is_bad as spec_bad};
 ghost use Rattle.m2_base.specs.Statics.Ranges.{count_of, range};
 ghost use Rattle.m2_base.specs.Statics.TypeParts.{named_target};
-ghost use Rattle.m2_base.specs.Statics.Types.{is_broken as spec_broken, kind_of, meaning_at, size_of as spec_size, range_of as spec_range};
+ghost use Rattle.m2_base.specs.Statics.Types.{is_broken as spec_broken, kind_of, meaning_at, size_of as spec_size};
+ghost use Rattle.m2_base.specs.Statics.Types.{range_of as spec_range};
 ghost use Rattle.m2_base.specs.declared.notes.Notes.{Notes as NotesOf};
 ghost use Rattle.m2_base.specs.declared.operands.Operand.TheVariants.{Variable};
 ghost use Rattle.code_form.specs.declared.instr.Instr.TheVariants.{IndexOpen, Load, Nil};
@@ -19,7 +20,10 @@ ghost use Rattle.type_rules.specs.Sites.{SuitsSite};
 ghost use Rattle.expr_sem.specs.Coders.{Codes, Keeps, SuitsPlace, frame_of, nodes_of};
 ghost use Rattle.expr_sem.specs.Coded.{coded, value_code as spec_value};
 ghost use Rattle.expr_sem.specs.Codings.{Coding, IsCoded, coded_in, high_in};
-ghost use Rattle.expr_sem.specs.Elements.{element_of_array as spec_of_array, element_of_open as spec_of_open, index_instr as spec_index, of_array as spec_array, of_pointer as spec_pointer, select_element as spec_element, select_target as spec_target};
+ghost use Rattle.expr_sem.specs.Elements.{element_of_array as spec_of_array, element_of_open as spec_of_open};
+ghost use Rattle.expr_sem.specs.Elements.{index_instr as spec_index, of_array as spec_array};
+ghost use Rattle.expr_sem.specs.Elements.{of_pointer as spec_pointer, select_element as spec_element};
+ghost use Rattle.expr_sem.specs.Elements.{select_target as spec_target};
 ghost use Rattle.expr_sem.specs.Fragments.{IsIn, IsMade, part};
 ghost use Rattle.expr_sem.specs.Parts.{plain, ◌⨟◌};
 ghost use Rattle.expr_sem.specs.Selections.{pointed as spec_pointed};
@@ -47,7 +51,8 @@ pub fn target_named<S: Scopes>(scopes: &mut S, around: &Around, to: Place) -> As
     ensures reads { Reads (S.state scopes.old) (S.state scopes.new) }
     ensures waits { WhereWaiting result (λ head. Waits (S.state scopes.old) (S.state scopes.new) head) }
     ensures told { WhereTold (S.state scopes.old).frame (λ made.
-        WhereKnown result (λ target. target ≡ named_target to (meaning_at (scene_of (S.state scopes.old).frame made around.now) to))) }
+        WhereKnown result
+        (λ target. target ≡ named_target to (meaning_at (scene_of (S.state scopes.old).frame made around.now) to))) }
     ensures there { WhereKnown result (λ target. IsThere (S.state scopes.old).frame target) }
 {
     let row = known!(row_at(scopes, around, to));
@@ -60,7 +65,8 @@ pub fn target_named<S: Scopes>(scopes: &mut S, around: &Around, to: Place) -> As
 /// The address that a pointer has, by the code of the pointer's own address: it must not be NIL.
 fn target_code(code: Fragment, fragments: &mut Fragments) -> Result<Fragment, Memory>
     requires there { IsIn fragments.old.nodes.items code }
-    ensures { IsMade fragments.old.nodes.items fragments.new.nodes.items result (part fragments.old.nodes.items code ⨟ plain (Load ∷ Nil ∷ [])) }
+    ensures { IsMade fragments.old.nodes.items fragments.new.nodes.items result
+        (part fragments.old.nodes.items code ⨟ plain (Load ∷ Nil ∷ [])) }
 {
     let loaded = pair(Instr::Load, Instr::Nil, fragments)?;
     fragments.then(code, loaded)
@@ -77,7 +83,9 @@ fn pointed<S: Scopes>(
     requires suits { SuitsSite (S.state scopes.old).frame site.now }
     requires to { IsThere (S.state scopes.old).frame to }
     requires code { IsIn fragments.old.nodes.items code }
-    ensures { (notes : NotesOf) → Coding (S.state scopes.old) (S.state scopes.new) notes notes fragments.old.nodes.items fragments.new.nodes.items site.now result IsCoded coded_in (λ c. spec_pointed c.scene (part fragments.old.nodes.items code) (named_target to (meaning_at c.scene to))) }
+    ensures { (notes : NotesOf) → Coding (S.state scopes.old) (S.state scopes.new) notes notes
+        fragments.old.nodes.items fragments.new.nodes.items site.now result IsCoded coded_in
+        (λ c. spec_pointed c.scene (part fragments.old.nodes.items code) (named_target to (meaning_at c.scene to))) }
 {
     let of = asked!(target_named(scopes, site.around, to));
     if asked!(is_broken(scopes, site.around, of)) {
@@ -87,14 +95,15 @@ fn pointed<S: Scopes>(
 }
 
 impl<S: Scopes> Coder<'_, '_, S> {
-    /// What a variable of this type points to. A pointer may lead to a type that is declared later: only statements ask for what
-    /// it points to, and elsewhere the error is that memory is wanted, which comes about in no module.
+    /// What a variable of this type points to. A pointer may lead to a type that is declared later: only statements
+    /// ask for what it points to, and elsewhere the error is that memory is wanted, which comes about in no module.
     fn of_pointer(&mut self, at: u32, of: Place, code: Fragment) -> Result<Ask<Coded>, Memory>
         requires suits { SuitsPlace S.state self.old }
         requires of { IsThere (frame_of S.state self.old) of }
         requires code { IsIn (nodes_of self.old) code }
         ensures keeps { Keeps self.old self.new }
-        ensures codes { Codes S.state self.old self.new result IsCoded coded_in (λ c. spec_pointer c at (part (nodes_of self.old) code) of (kind_of c.scene of)) }
+        ensures codes { Codes S.state self.old self.new result IsCoded coded_in
+            (λ c. spec_pointer c at (part (nodes_of self.old) code) of (kind_of c.scene of)) }
     {
         if self.site.item.is_some() {
             return Err(Memory);
@@ -116,7 +125,8 @@ impl<S: Scopes> Coder<'_, '_, S> {
         requires suits { SuitsPlace S.state self.old }
         requires x { IsCoded (frame_of S.state self.old) (nodes_of self.old) x }
         ensures keeps { Keeps self.old self.new }
-        ensures codes { Codes S.state self.old self.new result IsCoded coded_in (λ c. spec_target c first at (coded_in (nodes_of self.old) x)) }
+        ensures codes { Codes S.state self.old self.new result IsCoded coded_in
+            (λ c. spec_target c first at (coded_in (nodes_of self.old) x)) }
     {
         match x.operand {
             Operand::Variable(of) => self.of_pointer(at, of, x.code),
@@ -139,8 +149,8 @@ fn count_between(low: i64, high: i64) -> Option<u32>
     u32::try_from(high - low + 1).ok()
 }
 
-/// The instruction that finds an element of this size by an index of a type with these ends. A type with more than 32 bits of
-/// values comes about in no module: there the error is that memory is wanted.
+/// The instruction that finds an element of this size by an index of a type with these ends. A type with more than 32
+/// bits of values comes about in no module: there the error is that memory is wanted.
 fn index_instr(ends: Option<(i64, i64)>, size: u32) -> Result<Instr, Memory>
     requires { IfSome ends (λ ends. IsValue ends.0 × IsValue ends.1) }
     ensures { IfOk result (λ instr. instr ≡ spec_index (option_map (λ ends. range ends.0 ends.1) ends) size) }
@@ -162,7 +172,8 @@ fn is_spoilt<S: Scopes>(scopes: &mut S, around: &Around, index: Operand, of: Pla
     ensures reads { Reads (S.state scopes.old) (S.state scopes.new) }
     ensures waits { WhereWaiting result (λ head. Waits (S.state scopes.old) (S.state scopes.new) head) }
     ensures told { WhereTold (S.state scopes.old).frame (λ made.
-        WhereKnown result (λ holds. holds ≡ (spec_bad index || spec_broken (scene_of (S.state scopes.old).frame made around.now) of))) }
+        WhereKnown result
+        (λ holds. holds ≡ (spec_bad index || spec_broken (scene_of (S.state scopes.old).frame made around.now) of))) }
 {
     if is_bad(index) {
         return Ask::Known(true);
@@ -184,7 +195,8 @@ fn extent<S: Scopes>(
     ensures reads { Reads (S.state scopes.old) (S.state scopes.new) }
     ensures waits { WhereWaiting result (λ head. Waits (S.state scopes.old) (S.state scopes.new) head) }
     ensures ends { WhereTold (S.state scopes.old).frame (λ made.
-        WhereKnown result (λ given. option_map (λ ends. range ends.0 ends.1) given.0 ≡ spec_range (scene_of (S.state scopes.old).frame made around.now) index)) }
+        WhereKnown result (λ given. option_map (λ ends. range ends.0 ends.1) given.0
+        ≡ spec_range (scene_of (S.state scopes.old).frame made around.now) index)) }
     ensures size { WhereTold (S.state scopes.old).frame (λ made.
         WhereKnown result (λ given. given.1 ≡ spec_size (scene_of (S.state scopes.old).frame made around.now) of)) }
     ensures values { WhereKnown result (λ given. IfSome given.0 (λ ends. IsValue ends.0 × IsValue ends.1)) }
@@ -208,7 +220,8 @@ impl<S: Scopes> Coder<'_, '_, S> {
         requires index { IsCoded (frame_of S.state self.old) (nodes_of self.old) index }
         requires code { IsIn (nodes_of self.old) code }
         ensures keeps { Keeps self.old self.new }
-        ensures codes { Codes S.state self.old self.new result IsCoded coded_in (λ c. gives (coded (Variable of) (part (nodes_of self.old) code ⨟ spec_value c (coded_in (nodes_of self.old) index) ⨟ plain (find ∷ [])))) }
+        ensures codes { Codes S.state self.old self.new result IsCoded coded_in (λ c. gives (coded (Variable of)
+            (part (nodes_of self.old) code ⨟ spec_value c (coded_in (nodes_of self.old) index) ⨟ plain (find ∷ [])))) }
     {
         let value = analysed!(value_code(self.scopes, self.site, index, self.fragments));
         variable_at(of, applied(self.fragments, code, value, find))
@@ -228,7 +241,9 @@ impl<S: Scopes> Coder<'_, '_, S> {
         requires index { IsCoded (frame_of S.state self.old) (nodes_of self.old) index }
         requires code { IsIn (nodes_of self.old) code }
         ensures keeps { Keeps self.old self.new }
-        ensures codes { Codes S.state self.old self.new result IsCoded coded_in (λ c. gives (coded (Variable of) (part (nodes_of self.old) code ⨟ spec_value c (coded_in (nodes_of self.old) index) ⨟ plain (spec_index (spec_range c.scene indices) (spec_size c.scene of) ∷ [])))) }
+        ensures codes { Codes S.state self.old self.new result IsCoded coded_in (λ c. gives
+            (coded (Variable of) (part (nodes_of self.old) code ⨟ spec_value c (coded_in (nodes_of self.old) index)
+            ⨟ plain (spec_index (spec_range c.scene indices) (spec_size c.scene of) ∷ [])))) }
     {
         let found = asked!(extent(self.scopes, self.site.around, indices, of));
         match index_instr(found.0, found.1) {
@@ -251,7 +266,8 @@ impl<S: Scopes> Coder<'_, '_, S> {
         requires index { IsCoded (frame_of S.state self.old) (nodes_of self.old) index }
         requires x { IsCoded (frame_of S.state self.old) (nodes_of self.old) x }
         ensures keeps { Keeps self.old self.new }
-        ensures codes { Codes S.state self.old self.new result IsCoded coded_in (λ c. spec_of_array c (coded_in (nodes_of self.old) x) indices of (coded_in (nodes_of self.old) index)) }
+        ensures codes { Codes S.state self.old self.new result IsCoded coded_in
+            (λ c. spec_of_array c (coded_in (nodes_of self.old) x) indices of (coded_in (nodes_of self.old) index)) }
     {
         if asked!(is_spoilt(self.scopes, self.site.around, index.operand, of)) {
             return Ok(Ask::Known(Coded::in_error()));
@@ -263,7 +279,8 @@ impl<S: Scopes> Coder<'_, '_, S> {
 /// The code of the number of an open array's elements less 1.
 pub fn high_or_none(high: Option<Fragment>, fragments: &mut Fragments) -> Result<Fragment, Memory>
     requires there { IfSome high (λ h. IsIn fragments.old.nodes.items h) }
-    ensures { IsMade fragments.old.nodes.items fragments.new.nodes.items result (high_in fragments.old.nodes.items high) }
+    ensures { IsMade fragments.old.nodes.items fragments.new.nodes.items result
+        (high_in fragments.old.nodes.items high) }
 {
     match high {
         Some(high) => Ok(high),
@@ -271,8 +288,8 @@ pub fn high_or_none(high: Option<Fragment>, fragments: &mut Fragments) -> Result
     }
 }
 
-/// The address of an element of an open array: that of the array, the number of its elements less 1, the index, and the
-/// instruction that finds it.
+/// The address of an element of an open array: that of the array, the number of its elements less 1, the index, and
+/// the instruction that finds it.
 fn open_code(
     x: Coded,
     value: Fragment,
@@ -282,7 +299,9 @@ fn open_code(
     requires code { IsIn fragments.old.nodes.items x.code }
     requires high { IfSome x.high (λ h. IsIn fragments.old.nodes.items h) }
     requires value { IsIn fragments.old.nodes.items value }
-    ensures { IsMade fragments.old.nodes.items fragments.new.nodes.items result (part fragments.old.nodes.items x.code ⨟ high_in fragments.old.nodes.items x.high ⨟ part fragments.old.nodes.items value ⨟ plain (IndexOpen size ∷ [])) }
+    ensures { IsMade fragments.old.nodes.items fragments.new.nodes.items result
+        (part fragments.old.nodes.items x.code ⨟ high_in fragments.old.nodes.items x.high
+        ⨟ part fragments.old.nodes.items value ⨟ plain (IndexOpen size ∷ [])) }
 {
     let high = high_or_none(x.high, fragments)?;
     let found = applied(fragments, high, value, Instr::IndexOpen(size))?;
@@ -303,7 +322,9 @@ impl<S: Scopes> Coder<'_, '_, S> {
         requires index { IsCoded (frame_of S.state self.old) (nodes_of self.old) index }
         requires x { IsCoded (frame_of S.state self.old) (nodes_of self.old) x }
         ensures keeps { Keeps self.old self.new }
-        ensures codes { Codes S.state self.old self.new result IsCoded coded_in (λ c. gives (coded (Variable of) (part (nodes_of self.old) x.code ⨟ high_in (nodes_of self.old) x.high ⨟ spec_value c (coded_in (nodes_of self.old) index) ⨟ plain (IndexOpen size ∷ [])))) }
+        ensures codes { Codes S.state self.old self.new result IsCoded coded_in
+            (λ c. gives (coded (Variable of) (part (nodes_of self.old) x.code ⨟ high_in (nodes_of self.old) x.high
+            ⨟ spec_value c (coded_in (nodes_of self.old) index) ⨟ plain (IndexOpen size ∷ [])))) }
     {
         let value = analysed!(value_code(self.scopes, self.site, index, self.fragments));
         variable_at(of, open_code(x, value, size, self.fragments))
@@ -333,7 +354,9 @@ impl<S: Scopes> Coder<'_, '_, S> {
         requires index { IsCoded (frame_of S.state self.old) (nodes_of self.old) index }
         requires x { IsCoded (frame_of S.state self.old) (nodes_of self.old) x }
         ensures keeps { Keeps self.old self.new }
-        ensures codes { Codes S.state self.old self.new result IsCoded coded_in (λ c. gives (coded (Variable of) (part (nodes_of self.old) x.code ⨟ high_in (nodes_of self.old) x.high ⨟ spec_value c (coded_in (nodes_of self.old) index) ⨟ plain (IndexOpen (spec_size c.scene of) ∷ [])))) }
+        ensures codes { Codes S.state self.old self.new result IsCoded coded_in
+            (λ c. gives (coded (Variable of) (part (nodes_of self.old) x.code ⨟ high_in (nodes_of self.old) x.high
+            ⨟ spec_value c (coded_in (nodes_of self.old) index) ⨟ plain (IndexOpen (spec_size c.scene of) ∷ [])))) }
     {
         let size = asked!(cells_of(self.scopes, self.site.around, of));
         self.open_found(of, size, index, x)
@@ -346,7 +369,8 @@ impl<S: Scopes> Coder<'_, '_, S> {
         requires index { IsCoded (frame_of S.state self.old) (nodes_of self.old) index }
         requires x { IsCoded (frame_of S.state self.old) (nodes_of self.old) x }
         ensures keeps { Keeps self.old self.new }
-        ensures codes { Codes S.state self.old self.new result IsCoded coded_in (λ c. spec_of_open c (coded_in (nodes_of self.old) x) of (coded_in (nodes_of self.old) index)) }
+        ensures codes { Codes S.state self.old self.new result IsCoded coded_in
+            (λ c. spec_of_open c (coded_in (nodes_of self.old) x) of (coded_in (nodes_of self.old) index)) }
     {
         if asked!(is_spoilt(self.scopes, self.site.around, index.operand, of)) {
             return Ok(Ask::Known(Coded::in_error()));
@@ -368,7 +392,9 @@ impl<S: Scopes> Coder<'_, '_, S> {
         requires index { IsCoded (frame_of S.state self.old) (nodes_of self.old) index.coded }
         requires x { IsCoded (frame_of S.state self.old) (nodes_of self.old) x }
         ensures keeps { Keeps self.old self.new }
-        ensures codes { Codes S.state self.old self.new result IsCoded coded_in (λ c. and_then (spec_assigned c indices index.at not_assignable (coded_in (nodes_of self.old) index.coded)) (spec_of_array c (coded_in (nodes_of self.old) x) indices of)) }
+        ensures codes { Codes S.state self.old self.new result IsCoded coded_in
+            (λ c. and_then (spec_assigned c indices index.at not_assignable (coded_in (nodes_of self.old) index.coded))
+            (spec_of_array c (coded_in (nodes_of self.old) x) indices of)) }
     {
         let taken = analysed!(self.assigned_to(indices, Diagnostic::NotAssignable, index));
         self.element_of_array(indices, of, taken, x)
@@ -382,7 +408,9 @@ impl<S: Scopes> Coder<'_, '_, S> {
         requires index { IsCoded (frame_of S.state self.old) (nodes_of self.old) index.coded }
         requires x { IsCoded (frame_of S.state self.old) (nodes_of self.old) x }
         ensures keeps { Keeps self.old self.new }
-        ensures codes { Codes S.state self.old self.new result IsCoded coded_in (λ c. and_then (spec_assigned c cardinal index.at not_assignable (coded_in (nodes_of self.old) index.coded)) (spec_of_open c (coded_in (nodes_of self.old) x) of)) }
+        ensures codes { Codes S.state self.old self.new result IsCoded coded_in
+            (λ c. and_then (spec_assigned c cardinal index.at not_assignable
+            (coded_in (nodes_of self.old) index.coded)) (spec_of_open c (coded_in (nodes_of self.old) x) of)) }
     {
         let taken = analysed!(self.assigned_to(CARDINAL, Diagnostic::NotAssignable, index));
         self.element_of_open(of, taken, x)
@@ -401,7 +429,9 @@ impl<S: Scopes> Coder<'_, '_, S> {
         requires index { IsCoded (frame_of S.state self.old) (nodes_of self.old) index.coded }
         requires x { IsCoded (frame_of S.state self.old) (nodes_of self.old) x }
         ensures keeps { Keeps self.old self.new }
-        ensures codes { Codes S.state self.old self.new result IsCoded coded_in (λ c. spec_array c at (coded_in (nodes_of self.old) x) index.at (coded_in (nodes_of self.old) index.coded) (kind_of c.scene of)) }
+        ensures codes { Codes S.state self.old self.new result IsCoded coded_in
+            (λ c. spec_array c at (coded_in (nodes_of self.old) x) index.at (coded_in (nodes_of self.old) index.coded)
+            (kind_of c.scene of)) }
     {
         let (_, meaning) = asked!(stand(self.scopes, self.site.around, of));
         match meaning {
@@ -425,7 +455,8 @@ impl<S: Scopes> Coder<'_, '_, S> {
         requires index { IsCoded (frame_of S.state self.old) (nodes_of self.old) index.coded }
         requires x { IsCoded (frame_of S.state self.old) (nodes_of self.old) x }
         ensures keeps { Keeps self.old self.new }
-        ensures codes { Codes S.state self.old self.new result IsCoded coded_in (λ c. spec_element c first at index.at (coded_in (nodes_of self.old) index.coded) (coded_in (nodes_of self.old) x)) }
+        ensures codes { Codes S.state self.old self.new result IsCoded coded_in (λ c. spec_element c first at index.at
+            (coded_in (nodes_of self.old) index.coded) (coded_in (nodes_of self.old) x)) }
     {
         match x.operand {
             Operand::Variable(of) => self.of_array(at, of, index, x),

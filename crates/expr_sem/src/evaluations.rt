@@ -10,7 +10,8 @@ ghost use Rattle.m2_base.specs.declared.notes.Notes.{Notes as NotesOf};
 ghost use Rattle.expr_sem.specs.Coders.{Codes, Keeps, SeesWiths, SuitsPlace, names_of, nodes_of};
 ghost use Rattle.expr_sem.specs.Coded.{value_code as spec_code};
 ghost use Rattle.expr_sem.specs.Codings.{Coding, IsCoded, coded_in, with_types};
-ghost use Rattle.expr_sem.specs.Evaluations.{Evaluates, IsEvaluated, KeepsPiece, evaluated as spec_evaluated, evaluated_in, evaluation, operand_of};
+ghost use Rattle.expr_sem.specs.Evaluations.{Evaluates, IsEvaluated, KeepsPiece, evaluated as spec_evaluated};
+ghost use Rattle.expr_sem.specs.Evaluations.{evaluated_in, evaluation, operand_of};
 ghost use Rattle.expr_sem.specs.Expressions.{designated as spec_designated, value as spec_value};
 ghost use Rattle.expr_sem.specs.Fragments.{AreSound, IsIn, part};
 ghost use Rattle.expr_sem.specs.Pieces.{Appended};
@@ -33,7 +34,9 @@ fn valued<S: Scopes>(
 ) -> Result<Ask<Option<(Operand, Fragment)>>, Memory>
     requires suits { SuitsSite (S.state scopes.old).frame site.now }
     requires x { IsCoded (S.state scopes.old).frame fragments.old.nodes.items x }
-    ensures { (notes : NotesOf) → Coding (S.state scopes.old) (S.state scopes.new) notes notes fragments.old.nodes.items fragments.new.nodes.items site.now result IsEvaluated evaluated_in (λ c. gives (Some (x.operand, spec_code c (coded_in fragments.old.nodes.items x)))) }
+    ensures { (notes : NotesOf) → Coding (S.state scopes.old) (S.state scopes.new) notes notes
+        fragments.old.nodes.items fragments.new.nodes.items site.now result IsEvaluated evaluated_in
+        (λ c. gives (Some (x.operand, spec_code c (coded_in fragments.old.nodes.items x)))) }
 {
     let code = analysed!(value_code(scopes, site, x, fragments));
     Ok(Ask::Known(Some((x.operand, code))))
@@ -48,7 +51,9 @@ fn value_or_none<S: Scopes>(
 ) -> Result<Ask<Option<(Operand, Fragment)>>, Memory>
     requires suits { SuitsSite (S.state scopes.old).frame site.now }
     requires x { IsCoded (S.state scopes.old).frame fragments.old.nodes.items x }
-    ensures { (notes : NotesOf) → Coding (S.state scopes.old) (S.state scopes.new) notes notes fragments.old.nodes.items fragments.new.nodes.items site.now result IsEvaluated evaluated_in (λ c. gives (spec_evaluated x.operand (spec_code c (coded_in fragments.old.nodes.items x)))) }
+    ensures { (notes : NotesOf) → Coding (S.state scopes.old) (S.state scopes.new) notes notes
+        fragments.old.nodes.items fragments.new.nodes.items site.now result IsEvaluated evaluated_in
+        (λ c. gives (spec_evaluated x.operand (spec_code c (coded_in fragments.old.nodes.items x)))) }
 {
     match x.operand {
         Operand::InError => Ok(Ask::Known(None)),
@@ -74,7 +79,8 @@ impl<S: Scopes> Coder<'_, '_, S> {
         requires withs { SeesWiths S.state self.old }
         requires read { IsReadExpr (names_of self.old) (expr_view e.now) }
         ensures keeps { Keeps self.old self.new }
-        ensures codes { Codes S.state self.old self.new result IsEvaluated evaluated_in (λ c. evaluation (spec_value c (with_types self.old.withs.now) (expr_view e.now)) (λ x. spec_code c x)) }
+        ensures codes { Codes S.state self.old self.new result IsEvaluated evaluated_in
+            (λ c. evaluation (spec_value c (with_types self.old.withs.now) (expr_view e.now)) (λ x. spec_code c x)) }
     {
         let x = analysed!(self.value_of(e));
         value_or_none(self.scopes, self.site, x, self.fragments)
@@ -86,7 +92,8 @@ impl<S: Scopes> Coder<'_, '_, S> {
         requires withs { SeesWiths S.state self.old }
         requires read { IsReadDesignator (names_of self.old) (designator_view of.now) }
         ensures keeps { Keeps self.old self.new }
-        ensures codes { Codes S.state self.old self.new result IsEvaluated evaluated_in (λ c. evaluation (spec_designated c (with_types self.old.withs.now) (designator_view of.now)) (λ x. x.code)) }
+        ensures codes { Codes S.state self.old self.new result IsEvaluated evaluated_in (λ c.
+            evaluation (spec_designated c (with_types self.old.withs.now) (designator_view of.now)) (λ x. x.code)) }
     {
         let x = analysed!(self.designated(of));
         Ok(Ask::Known(address_or_none(x)))
@@ -104,7 +111,8 @@ fn appended(
     requires there { IfSome made (λ x. IsIn fragments.now.nodes.items x.1) }
     ensures kept { KeepsPiece result piece.old piece.new }
     ensures operand { IfKnown result (λ o. o ≡ operand_of made) }
-    ensures code { IfKnown result (λ o. IfSome made (λ x. Appended piece.old piece.new withs.now (part fragments.now.nodes.items x.1))) }
+    ensures code { IfKnown result
+        (λ o. IfSome made (λ x. Appended piece.old piece.new withs.now (part fragments.now.nodes.items x.1))) }
     ensures known { IfWaits result (λ head. ⊥) }
 {
     match made {
@@ -127,7 +135,9 @@ impl<S: Scopes> Coder<'_, '_, S> {
         requires sound { AreSound (nodes_of self.old) }
         requires read { IsReadExpr (names_of self.old) (expr_view e.now) }
         ensures keeps { Keeps self.old self.new }
-        ensures codes { Evaluates (S.state self.old.scopes.now) (S.state self.new.scopes.now) self.old.notes.now self.new.notes.now piece.old piece.new self.old.withs.now self.old.site.now result (λ c x. spec_code c x) (λ c. spec_value c (with_types self.old.withs.now) (expr_view e.now)) }
+        ensures codes { Evaluates (S.state self.old.scopes.now) (S.state self.new.scopes.now) self.old.notes.now
+            self.new.notes.now piece.old piece.new self.old.withs.now self.old.site.now result (λ c x. spec_code c x)
+            (λ c. spec_value c (with_types self.old.withs.now) (expr_view e.now)) }
     {
         let made = analysed!(self.value_made(e));
         appended(self.fragments, made, self.withs, piece)
@@ -145,7 +155,9 @@ impl<S: Scopes> Coder<'_, '_, S> {
         requires sound { AreSound (nodes_of self.old) }
         requires read { IsReadDesignator (names_of self.old) (designator_view of.now) }
         ensures keeps { Keeps self.old self.new }
-        ensures codes { Evaluates (S.state self.old.scopes.now) (S.state self.new.scopes.now) self.old.notes.now self.new.notes.now piece.old piece.new self.old.withs.now self.old.site.now result (λ c x. x.code) (λ c. spec_designated c (with_types self.old.withs.now) (designator_view of.now)) }
+        ensures codes { Evaluates (S.state self.old.scopes.now) (S.state self.new.scopes.now) self.old.notes.now
+            self.new.notes.now piece.old piece.new self.old.withs.now self.old.site.now result (λ c x. x.code)
+            (λ c. spec_designated c (with_types self.old.withs.now) (designator_view of.now)) }
     {
         let made = analysed!(self.address_made(of));
         appended(self.fragments, made, self.withs, piece)

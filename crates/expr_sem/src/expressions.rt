@@ -1,15 +1,28 @@
 //! What expressions and designators stand for, with their code, by recursion on the trees.
 ghost use Rattle.std.specs.Prelude.{map};
 ghost use Rattle.m2_base.specs.Lists.{Each};
-ghost use Rattle.m2_base.specs.Statics.ReadTrees.{AreReadExprs, AreReadLabels, AreReadNexts, AreReadSelectors, IsReadDesignator, IsReadExpr, IsReadLabel, IsReadNext, IsReadSelector};
+ghost use Rattle.m2_base.specs.Statics.ReadTrees.{AreReadExprs, AreReadLabels, AreReadNexts, AreReadSelectors};
+ghost use Rattle.m2_base.specs.Statics.ReadTrees.{IsReadDesignator, IsReadExpr, IsReadLabel, IsReadNext};
+ghost use Rattle.m2_base.specs.Statics.ReadTrees.{IsReadSelector};
 ghost use Rattle.m2_base.specs.Trees.{exprs, labels, nexts, selectors};
 ghost use Rattle.m2_base.specs.Views.{designator_view, expr_view, label_view, next_view, selector_view};
 ghost use Rattle.expr_sem.specs.Coders.{Codes, Keeps, SeesWiths, SuitsPlace, frame_of, names_of, nodes_of};
 ghost use Rattle.expr_sem.specs.ArgumentCodes.{IsArgument, argument_in, parameter_view};
 ghost use Rattle.expr_sem.specs.Callees.{IsCallable, IsCallee, called_in};
 ghost use Rattle.expr_sem.specs.Codings.{IsCoded, coded_in, with_types};
-ghost use Rattle.expr_sem.specs.ExpressionParts.{IsPlace, called_as as spec_called_as, called_with as spec_called_with, first_argument as spec_first, index as spec_index, lacking as spec_lacking, member as spec_member, next_passed as spec_next, place_in, procedure as spec_procedure, range_to as spec_range, second_argument as spec_second, set_of as spec_set, type_before as spec_type};
-ghost use Rattle.expr_sem.specs.Expressions.{call_alone as spec_alone, continued as spec_continued, designated as spec_designated, element as spec_element, elements as spec_elements, expression as spec_expression, followed as spec_followed, indexed as spec_indexed, looked_at as spec_looked, passed as spec_passed, selected as spec_selected, selector as spec_selector, standard as spec_standard, value as spec_value};
+ghost use Rattle.expr_sem.specs.ExpressionParts.{IsPlace, called_as as spec_called_as};
+ghost use Rattle.expr_sem.specs.ExpressionParts.{called_with as spec_called_with, first_argument as spec_first};
+ghost use Rattle.expr_sem.specs.ExpressionParts.{index as spec_index, lacking as spec_lacking, member as spec_member};
+ghost use Rattle.expr_sem.specs.ExpressionParts.{next_passed as spec_next, place_in, procedure as spec_procedure};
+ghost use Rattle.expr_sem.specs.ExpressionParts.{range_to as spec_range, second_argument as spec_second};
+ghost use Rattle.expr_sem.specs.ExpressionParts.{set_of as spec_set, type_before as spec_type};
+ghost use Rattle.expr_sem.specs.Expressions.{call_alone as spec_alone, continued as spec_continued};
+ghost use Rattle.expr_sem.specs.Expressions.{designated as spec_designated, element as spec_element};
+ghost use Rattle.expr_sem.specs.Expressions.{elements as spec_elements, expression as spec_expression};
+ghost use Rattle.expr_sem.specs.Expressions.{followed as spec_followed, indexed as spec_indexed};
+ghost use Rattle.expr_sem.specs.Expressions.{looked_at as spec_looked, passed as spec_passed};
+ghost use Rattle.expr_sem.specs.Expressions.{selected as spec_selected, selector as spec_selector};
+ghost use Rattle.expr_sem.specs.Expressions.{standard as spec_standard, value as spec_value};
 ghost use Rattle.expr_sem.specs.Fragments.{part};
 ghost use Rattle.expr_sem.specs.SetCodings.{AreElements, elements_in};
 ghost use Rattle.type_rules.specs.Scenes.{IsThere};
@@ -38,7 +51,8 @@ impl<S: Scopes> Coder<'_, '_, S> {
         requires withs { SeesWiths S.state self.old }
         requires read { IsReadExpr (names_of self.old) (expr_view e.now) }
         ensures keeps { Keeps self.old self.new }
-        ensures codes { Codes S.state self.old self.new result IsCoded coded_in (λ c. spec_expression c (with_types self.old.withs.now) (expr_view e.now)) }
+        ensures codes { Codes S.state self.old self.new result IsCoded coded_in
+            (λ c. spec_expression c (with_types self.old.withs.now) (expr_view e.now)) }
     {
         match &e.form {
             ExprForm::Number(value) => {
@@ -79,15 +93,17 @@ impl<S: Scopes> Coder<'_, '_, S> {
         }
     }
 
-    /// What an expression stands for where a value is wanted; a type alone, say, is refused at its first token. The code is
-    /// the operand's own, of a variable its address: `value_code` goes on from there. It waits for names and types.
+    /// What an expression stands for where a value is wanted; a type alone, say, is refused at its first token. The
+    /// code is the operand's own, of a variable its address: `value_code` goes on from there.
+    /// It waits for names and types.
     #[cycle(expressions)]
     pub fn value_of(&mut self, e: &Expr) -> Result<Ask<Coded>, Memory>
         requires suits { SuitsPlace S.state self.old }
         requires withs { SeesWiths S.state self.old }
         requires read { IsReadExpr (names_of self.old) (expr_view e.now) }
         ensures keeps { Keeps self.old self.new }
-        ensures codes { Codes S.state self.old self.new result IsCoded coded_in (λ c. spec_value c (with_types self.old.withs.now) (expr_view e.now)) }
+        ensures codes { Codes S.state self.old self.new result IsCoded coded_in
+            (λ c. spec_value c (with_types self.old.withs.now) (expr_view e.now)) }
     {
         let x = analysed!(self.expression(e));
         as_value(self.site, e.at, x, self.notes)
@@ -101,7 +117,9 @@ impl<S: Scopes> Coder<'_, '_, S> {
         requires left { IsCoded (frame_of S.state self.old) (nodes_of self.old) left.coded }
         requires read { AreReadNexts (names_of self.old) (nexts (map next_view rest.now)) }
         ensures keeps { Keeps self.old self.new }
-        ensures codes { Codes S.state self.old self.new result IsCoded coded_in (λ c. spec_continued c (with_types self.old.withs.now) left.at (coded_in (nodes_of self.old) left.coded) (nexts (map next_view rest.now))) }
+        ensures codes { Codes S.state self.old self.new result IsCoded coded_in
+            (λ c. spec_continued c (with_types self.old.withs.now) left.at (coded_in (nodes_of self.old) left.coded)
+            (nexts (map next_view rest.now))) }
     {
         let mut x = left.coded;
         for next in rest.iter() {
@@ -122,7 +140,8 @@ impl<S: Scopes> Coder<'_, '_, S> {
         requires left { IsCoded (frame_of S.state self.old) (nodes_of self.old) left.coded }
         requires read { IsReadNext (names_of self.old) (next_view next.now) }
         ensures keeps { Keeps self.old self.new }
-        ensures codes { Codes S.state self.old self.new result IsCoded coded_in (λ c. spec_followed c (with_types self.old.withs.now) left.at (coded_in (nodes_of self.old) left.coded) (next_view next.now)) }
+        ensures codes { Codes S.state self.old self.new result IsCoded coded_in (λ c. spec_followed c
+            (with_types self.old.withs.now) left.at (coded_in (nodes_of self.old) left.coded) (next_view next.now)) }
     {
         let coded = analysed!(self.value_of(&next.right));
         let right = Placed {
@@ -139,7 +158,8 @@ impl<S: Scopes> Coder<'_, '_, S> {
         requires withs { SeesWiths S.state self.old }
         requires read { IsReadDesignator (names_of self.old) (designator_view of.now) }
         ensures keeps { Keeps self.old self.new }
-        ensures codes { Codes S.state self.old self.new result IsPlace place_in (λ c. spec_type c (with_types self.old.withs.now) (designator_view of.now)) }
+        ensures codes { Codes S.state self.old self.new result IsPlace place_in
+            (λ c. spec_type c (with_types self.old.withs.now) (designator_view of.now)) }
     {
         let x = analysed!(self.designated(of));
         type_noted(self.scopes, self.site, of.first.at, x.operand, self.notes)
@@ -153,7 +173,8 @@ impl<S: Scopes> Coder<'_, '_, S> {
         requires of { IsThere (frame_of S.state self.old) of }
         requires read { AreReadLabels (names_of self.old) (labels (map label_view items.now)) }
         ensures keeps { Keeps self.old self.new }
-        ensures codes { Codes S.state self.old self.new result IsCoded coded_in (λ c. spec_set c (with_types self.old.withs.now) of (labels (map label_view items.now))) }
+        ensures codes { Codes S.state self.old self.new result IsCoded coded_in
+            (λ c. spec_set c (with_types self.old.withs.now) of (labels (map label_view items.now))) }
     {
         let (base, none) = match set_start(self.scopes, self.site, of) {
             Ask::Known(start) => start,
@@ -177,7 +198,9 @@ impl<S: Scopes> Coder<'_, '_, S> {
         requires es { AreElements (frame_of S.state self.old) (nodes_of self.old) es }
         requires read { AreReadLabels (names_of self.old) (labels (map label_view items.now)) }
         ensures keeps { Keeps self.old self.new }
-        ensures codes { Codes S.state self.old self.new result AreElements elements_in (λ c. spec_elements c (with_types self.old.withs.now) base (elements_in (nodes_of self.old) es) (labels (map label_view items.now))) }
+        ensures codes { Codes S.state self.old self.new result AreElements elements_in
+            (λ c. spec_elements c (with_types self.old.withs.now) base (elements_in (nodes_of self.old) es)
+            (labels (map label_view items.now))) }
     {
         let mut made = es;
         for label in items.iter() {
@@ -195,7 +218,8 @@ impl<S: Scopes> Coder<'_, '_, S> {
         requires es { AreElements (frame_of S.state self.old) (nodes_of self.old) es }
         requires read { IsReadLabel (names_of self.old) (label_view label.now) }
         ensures keeps { Keeps self.old self.new }
-        ensures codes { Codes S.state self.old self.new result AreElements elements_in (λ c. spec_element c (with_types self.old.withs.now) base (elements_in (nodes_of self.old) es) (label_view label.now)) }
+        ensures codes { Codes S.state self.old self.new result AreElements elements_in (λ c. spec_element c
+            (with_types self.old.withs.now) base (elements_in (nodes_of self.old) es) (label_view label.now)) }
     {
         let low = analysed!(self.member(base, &label.low));
         match &label.high {
@@ -220,7 +244,9 @@ impl<S: Scopes> Coder<'_, '_, S> {
         requires low { IsCoded (frame_of S.state self.old) (nodes_of self.old) low }
         requires read { IsReadExpr (names_of self.old) (expr_view high.now) }
         ensures keeps { Keeps self.old self.new }
-        ensures codes { Codes S.state self.old self.new result AreElements elements_in (λ c. spec_range c (with_types self.old.withs.now) base (elements_in (nodes_of self.old) es) (coded_in (nodes_of self.old) low) (expr_view high.now)) }
+        ensures codes { Codes S.state self.old self.new result AreElements elements_in
+            (λ c. spec_range c (with_types self.old.withs.now) base (elements_in (nodes_of self.old) es)
+            (coded_in (nodes_of self.old) low) (expr_view high.now)) }
     {
         let high = analysed!(self.member(base, high));
         self.add_range(es, low, high)
@@ -234,7 +260,8 @@ impl<S: Scopes> Coder<'_, '_, S> {
         requires base { IsThere (frame_of S.state self.old) base }
         requires read { IsReadExpr (names_of self.old) (expr_view e.now) }
         ensures keeps { Keeps self.old self.new }
-        ensures codes { Codes S.state self.old self.new result IsCoded coded_in (λ c. spec_member c (with_types self.old.withs.now) base (expr_view e.now)) }
+        ensures codes { Codes S.state self.old self.new result IsCoded coded_in
+            (λ c. spec_member c (with_types self.old.withs.now) base (expr_view e.now)) }
     {
         let coded = analysed!(self.value_of(e));
         self.element_coded(base, Placed { at: e.at, coded })
@@ -247,7 +274,8 @@ impl<S: Scopes> Coder<'_, '_, S> {
         requires withs { SeesWiths S.state self.old }
         requires read { AreReadExprs (names_of self.old) (exprs (map expr_view args.now)) }
         ensures keeps { Keeps self.old self.new }
-        ensures codes { Codes S.state self.old self.new result IsCoded coded_in (λ c. spec_looked c (with_types self.old.withs.now) (exprs (map expr_view args.now))) }
+        ensures codes { Codes S.state self.old self.new result IsCoded coded_in
+            (λ c. spec_looked c (with_types self.old.withs.now) (exprs (map expr_view args.now))) }
     {
         for e in args.iter() {
             let _looked = analysed!(self.expression(e));
@@ -262,7 +290,8 @@ impl<S: Scopes> Coder<'_, '_, S> {
         requires withs { SeesWiths S.state self.old }
         requires read { AreReadExprs (names_of self.old) (exprs (map expr_view args.now)) }
         ensures keeps { Keeps self.old self.new }
-        ensures codes { Codes S.state self.old self.new result IsCoded coded_in (λ c. spec_standard c (with_types self.old.withs.now) f (exprs (map expr_view args.now))) }
+        ensures codes { Codes S.state self.old self.new result IsCoded coded_in
+            (λ c. spec_standard c (with_types self.old.withs.now) f (exprs (map expr_view args.now))) }
     {
         match args {
             [] => of_no_argument(f, self.fragments),
@@ -285,7 +314,8 @@ impl<S: Scopes> Coder<'_, '_, S> {
         requires withs { SeesWiths S.state self.old }
         requires read { IsReadExpr (names_of self.old) (expr_view e.now) }
         ensures keeps { Keeps self.old self.new }
-        ensures codes { Codes S.state self.old self.new result IsCoded coded_in (λ c. spec_first c (with_types self.old.withs.now) f (expr_view e.now)) }
+        ensures codes { Codes S.state self.old self.new result IsCoded coded_in
+            (λ c. spec_first c (with_types self.old.withs.now) f (expr_view e.now)) }
     {
         let x = analysed!(self.expression(e));
         self.first_of_two(f, e.at, x)
@@ -299,7 +329,8 @@ impl<S: Scopes> Coder<'_, '_, S> {
         requires first { IsCoded (frame_of S.state self.old) (nodes_of self.old) first.coded }
         requires read { IsReadExpr (names_of self.old) (expr_view e.now) }
         ensures keeps { Keeps self.old self.new }
-        ensures codes { Codes S.state self.old self.new result IsCoded coded_in (λ c. spec_second c (with_types self.old.withs.now) f first.at (coded_in (nodes_of self.old) first.coded) (expr_view e.now)) }
+        ensures codes { Codes S.state self.old self.new result IsCoded coded_in (λ c. spec_second c
+            (with_types self.old.withs.now) f first.at (coded_in (nodes_of self.old) first.coded) (expr_view e.now)) }
     {
         let coded = analysed!(self.expression(e));
         let second = Placed { at: e.at, coded };
@@ -318,7 +349,8 @@ impl<S: Scopes> Coder<'_, '_, S> {
         requires params { Each (λ p. IsThere (frame_of S.state self.old) p.of) params.now }
         requires read { AreReadExprs (names_of self.old) (exprs (map expr_view args.now)) }
         ensures keeps { Keeps self.old self.new }
-        ensures codes { Codes S.state self.old self.new result IsArgument argument_in (λ c. spec_passed c (with_types self.old.withs.now) (map parameter_view params.now) (exprs (map expr_view args.now))) }
+        ensures codes { Codes S.state self.old self.new result IsArgument argument_in (λ c. spec_passed c
+            (with_types self.old.withs.now) (map parameter_view params.now) (exprs (map expr_view args.now))) }
     {
         let mut left = params;
         let mut code = Some(Fragment::Nothing);
@@ -343,7 +375,9 @@ impl<S: Scopes> Coder<'_, '_, S> {
         requires code { IsArgument (frame_of S.state self.old) (nodes_of self.old) code }
         requires read { IsReadExpr (names_of self.old) (expr_view e.now) }
         ensures keeps { Keeps self.old self.new }
-        ensures codes { Codes S.state self.old self.new result IsArgument argument_in (λ c. spec_next c (with_types self.old.withs.now) (map parameter_view params.now) (argument_in (nodes_of self.old) code) (expr_view e.now)) }
+        ensures codes { Codes S.state self.old self.new result IsArgument argument_in
+            (λ c. spec_next c (with_types self.old.withs.now) (map parameter_view params.now)
+            (argument_in (nodes_of self.old) code) (expr_view e.now)) }
     {
         match params.first() {
             None => Ok(Ask::Known(None)),
@@ -363,7 +397,10 @@ impl<S: Scopes> Coder<'_, '_, S> {
         requires callee { IsCallee (frame_of S.state self.old) (nodes_of self.old) callee.now }
         requires read { AreReadExprs (names_of self.old) (exprs (map expr_view args.now)) }
         ensures keeps { Keeps self.old self.new }
-        ensures codes { Codes S.state self.old self.new result IsCoded coded_in (λ c. spec_procedure c (with_types self.old.withs.now) (map parameter_view callee.now.params.items) (part (nodes_of self.old) callee.now.before) callee.now.instr callee.now.result callee.now.more (exprs (map expr_view args.now))) }
+        ensures codes { Codes S.state self.old self.new result IsCoded coded_in
+            (λ c. spec_procedure c (with_types self.old.withs.now) (map parameter_view callee.now.params.items)
+            (part (nodes_of self.old) callee.now.before) callee.now.instr callee.now.result callee.now.more
+            (exprs (map expr_view args.now))) }
     {
         let params = &callee.params;
         let codes = analysed!(self.passed(params, args));
@@ -378,7 +415,8 @@ impl<S: Scopes> Coder<'_, '_, S> {
         requires params { Each (λ p. IsThere (frame_of S.state self.old) p.of) params.now }
         requires read { AreReadExprs (names_of self.old) (exprs (map expr_view args.now)) }
         ensures keeps { Keeps self.old self.new }
-        ensures codes { Codes S.state self.old self.new result IsCoded coded_in (λ c. spec_lacking c (with_types self.old.withs.now) (map parameter_view params.now) (exprs (map expr_view args.now))) }
+        ensures codes { Codes S.state self.old self.new result IsCoded coded_in (λ c. spec_lacking c
+            (with_types self.old.withs.now) (map parameter_view params.now) (exprs (map expr_view args.now))) }
     {
         let _codes = analysed!(self.passed(params, args));
         Ok(Ask::Known(Coded::in_error()))
@@ -392,7 +430,9 @@ impl<S: Scopes> Coder<'_, '_, S> {
         requires what { IsCallable (frame_of S.state self.old) (nodes_of self.old) what.now }
         requires read { AreReadExprs (names_of self.old) (exprs (map expr_view args.now)) }
         ensures keeps { Keeps self.old self.new }
-        ensures codes { Codes S.state self.old self.new result IsCoded coded_in (λ c. spec_called_as c (with_types self.old.withs.now) (exprs (map expr_view args.now)) (called_in (nodes_of self.old) what.now)) }
+        ensures codes { Codes S.state self.old self.new result IsCoded coded_in
+            (λ c. spec_called_as c (with_types self.old.withs.now) (exprs (map expr_view args.now))
+            (called_in (nodes_of self.old) what.now)) }
     {
         match what {
             Callable::Standard(f) => self.standard(*f, args),
@@ -402,7 +442,8 @@ impl<S: Scopes> Coder<'_, '_, S> {
         }
     }
 
-    /// Something with these arguments. `is_wanted` tells whether the call stands where a value is wanted; `at` is the first token.
+    /// Something with these arguments. `is_wanted` tells whether the call stands where a value is wanted;
+    /// `at` is the first token.
     #[cycle(expressions)]
     fn called_with(
         &mut self,
@@ -415,22 +456,25 @@ impl<S: Scopes> Coder<'_, '_, S> {
         requires to { IsCoded (frame_of S.state self.old) (nodes_of self.old) to.coded }
         requires read { AreReadExprs (names_of self.old) (exprs (map expr_view args.now)) }
         ensures keeps { Keeps self.old self.new }
-        ensures codes { Codes S.state self.old self.new result IsCoded coded_in (λ c. spec_called_with c (with_types self.old.withs.now) is_wanted to.at (coded_in (nodes_of self.old) to.coded) (exprs (map expr_view args.now))) }
+        ensures codes { Codes S.state self.old self.new result IsCoded coded_in
+            (λ c. spec_called_with c (with_types self.old.withs.now) is_wanted to.at
+            (coded_in (nodes_of self.old) to.coded) (exprs (map expr_view args.now))) }
     {
         let count = args.len();
         let what = analysed!(self.called(is_wanted, to.at, count, to.coded));
         self.called_as(&what, args)
     }
 
-    /// What a designator stands for within the open WITHs: its name, and then what each selector selects of that. The code
-    /// of a variable leaves its address, all else has none. It waits for names and types.
+    /// What a designator stands for within the open WITHs: its name, and then what each selector selects of that. The
+    /// code of a variable leaves its address, all else has none. It waits for names and types.
     #[cycle(expressions)]
     pub fn designated(&mut self, of: &Designator) -> Result<Ask<Coded>, Memory>
         requires suits { SuitsPlace S.state self.old }
         requires withs { SeesWiths S.state self.old }
         requires read { IsReadDesignator (names_of self.old) (designator_view of.now) }
         ensures keeps { Keeps self.old self.new }
-        ensures codes { Codes S.state self.old self.new result IsCoded coded_in (λ c. spec_designated c (with_types self.old.withs.now) (designator_view of.now)) }
+        ensures codes { Codes S.state self.old self.new result IsCoded coded_in
+            (λ c. spec_designated c (with_types self.old.withs.now) (designator_view of.now)) }
     {
         let x = analysed!(self.name_coded(of.first));
         self.selected(of.first.at, x, &of.rest)
@@ -444,7 +488,9 @@ impl<S: Scopes> Coder<'_, '_, S> {
         requires x { IsCoded (frame_of S.state self.old) (nodes_of self.old) x }
         requires read { AreReadSelectors (names_of self.old) (selectors (map selector_view rest.now)) }
         ensures keeps { Keeps self.old self.new }
-        ensures codes { Codes S.state self.old self.new result IsCoded coded_in (λ c. spec_selected c (with_types self.old.withs.now) first (coded_in (nodes_of self.old) x) (selectors (map selector_view rest.now))) }
+        ensures codes { Codes S.state self.old self.new result IsCoded coded_in
+            (λ c. spec_selected c (with_types self.old.withs.now) first (coded_in (nodes_of self.old) x)
+            (selectors (map selector_view rest.now))) }
     {
         let mut y = x;
         for selector in rest.iter() {
@@ -461,7 +507,8 @@ impl<S: Scopes> Coder<'_, '_, S> {
         requires x { IsCoded (frame_of S.state self.old) (nodes_of self.old) x }
         requires read { IsReadSelector (names_of self.old) (selector_view selector.now) }
         ensures keeps { Keeps self.old self.new }
-        ensures codes { Codes S.state self.old self.new result IsCoded coded_in (λ c. spec_selector c (with_types self.old.withs.now) first (coded_in (nodes_of self.old) x) (selector_view selector.now)) }
+        ensures codes { Codes S.state self.old self.new result IsCoded coded_in (λ c. spec_selector c
+            (with_types self.old.withs.now) first (coded_in (nodes_of self.old) x) (selector_view selector.now)) }
     {
         match selector {
             Selector::Field(ident, at) => self.select_field(first, *at, *ident, x),
@@ -478,7 +525,8 @@ impl<S: Scopes> Coder<'_, '_, S> {
         requires x { IsCoded (frame_of S.state self.old) (nodes_of self.old) x }
         requires read { AreReadExprs (names_of self.old) (exprs (map expr_view es.now)) }
         ensures keeps { Keeps self.old self.new }
-        ensures codes { Codes S.state self.old self.new result IsCoded coded_in (λ c. spec_indexed c (with_types self.old.withs.now) first at (coded_in (nodes_of self.old) x) (exprs (map expr_view es.now))) }
+        ensures codes { Codes S.state self.old self.new result IsCoded coded_in (λ c. spec_indexed c
+            (with_types self.old.withs.now) first at (coded_in (nodes_of self.old) x) (exprs (map expr_view es.now))) }
     {
         let mut y = x;
         for e in es.iter() {
@@ -495,7 +543,8 @@ impl<S: Scopes> Coder<'_, '_, S> {
         requires x { IsCoded (frame_of S.state self.old) (nodes_of self.old) x }
         requires read { IsReadExpr (names_of self.old) (expr_view e.now) }
         ensures keeps { Keeps self.old self.new }
-        ensures codes { Codes S.state self.old self.new result IsCoded coded_in (λ c. spec_index c (with_types self.old.withs.now) first at (coded_in (nodes_of self.old) x) (expr_view e.now)) }
+        ensures codes { Codes S.state self.old self.new result IsCoded coded_in (λ c.
+            spec_index c (with_types self.old.withs.now) first at (coded_in (nodes_of self.old) x) (expr_view e.now)) }
     {
         let coded = analysed!(self.value_of(e));
         let index = Placed { at: e.at, coded };
@@ -503,14 +552,16 @@ impl<S: Scopes> Coder<'_, '_, S> {
     }
 
     /// A call that stands as a statement: its code computes the arguments, calls, and leaves the stack as it was. What
-    /// gives a value, or takes another number of arguments, is refused at its first token. It waits for names and types.
+    /// gives a value, or takes another number of arguments, is refused at its first token.
+    /// It waits for names and types.
     pub fn call_alone(&mut self, to: &Designator, args: &[Expr]) -> Result<Ask<Coded>, Memory>
         requires suits { SuitsPlace S.state self.old }
         requires withs { SeesWiths S.state self.old }
         requires to { IsReadDesignator (names_of self.old) (designator_view to.now) }
         requires args { AreReadExprs (names_of self.old) (exprs (map expr_view args.now)) }
         ensures keeps { Keeps self.old self.new }
-        ensures codes { Codes S.state self.old self.new result IsCoded coded_in (λ c. spec_alone c (with_types self.old.withs.now) (designator_view to.now) (exprs (map expr_view args.now))) }
+        ensures codes { Codes S.state self.old self.new result IsCoded coded_in (λ c.
+            spec_alone c (with_types self.old.withs.now) (designator_view to.now) (exprs (map expr_view args.now))) }
     {
         let coded = analysed!(self.designated(to));
         let target = Placed {

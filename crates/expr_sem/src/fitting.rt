@@ -5,7 +5,8 @@ ghost use Rattle.m2_base.specs.Statics.Ranges.{range};
 ghost use Rattle.m2_base.specs.declared.notes.Notes.{Notes};
 ghost use Rattle.const_eval.specs.Sites.{IsOperand};
 ghost use Rattle.expr_sem.specs.Codings.{Coding, IsCoded, IsFragment, coded_in};
-ghost use Rattle.expr_sem.specs.Fitting.{check_of as spec_check_of, fit_check as spec_fit_check, fit_of as spec_fit_of, fitted_code as spec_fitted};
+ghost use Rattle.expr_sem.specs.Fitting.{check_of as spec_check_of, fit_check as spec_fit_check};
+ghost use Rattle.expr_sem.specs.Fitting.{fit_of as spec_fit_of, fitted_code as spec_fitted};
 ghost use Rattle.expr_sem.specs.Fragments.{IsMade, part};
 ghost use Rattle.expr_sem.specs.Parts.{plain};
 ghost use Rattle.expr_sem.specs.RangeChecks.{checks_of};
@@ -22,7 +23,8 @@ use type_rules::range_of;
 
 /// The range against which a value of the first range is checked: the second, where the first isn't within it.
 fn ends_to_check(from: Option<(i64, i64)>, to: Option<(i64, i64)>) -> Option<(i64, i64)>
-    ensures { checks_of result ≡ spec_check_of (option_map (λ ends. range ends.0 ends.1) from) (option_map (λ ends. range ends.0 ends.1) to) }
+    ensures { checks_of result
+        ≡ spec_check_of (option_map (λ ends. range ends.0 ends.1) from) (option_map (λ ends. range ends.0 ends.1) to) }
 {
     let (low, high) = to?;
     match from {
@@ -52,14 +54,16 @@ fn fit_check<S: Scopes>(
     requires suits { SuitsSite (S.state scopes.old).frame site.now }
     requires from { IsThere (S.state scopes.old).frame from }
     requires to { IsThere (S.state scopes.old).frame to }
-    ensures { (notes : Notes) → Coding (S.state scopes.old) (S.state scopes.new) notes notes fragments.old.nodes.items fragments.new.nodes.items site.now result IsFragment part (λ c. gives (spec_fit_check c.scene from to)) }
+    ensures { (notes : Notes) → Coding (S.state scopes.old) (S.state scopes.new) notes notes fragments.old.nodes.items
+        fragments.new.nodes.items site.now result IsFragment part (λ c. gives (spec_fit_check c.scene from to)) }
 {
     let values = asked!(range_of(scopes, site.around, from));
     let wanted = asked!(range_of(scopes, site.around, to));
     answered(check(ends_to_check(values, wanted), fragments))
 }
 
-/// The check behind an operand that is to be of a type. A constant was looked at already, and a procedure has no range.
+/// The check behind an operand that is to be of a type. A constant was looked at already,
+/// and a procedure has no range.
 pub fn fit_of<S: Scopes>(
     scopes: &mut S,
     site: &Site,
@@ -70,7 +74,8 @@ pub fn fit_of<S: Scopes>(
     requires suits { SuitsSite (S.state scopes.old).frame site.now }
     requires to { IsThere (S.state scopes.old).frame to }
     requires operand { IsOperand (S.state scopes.old).frame operand }
-    ensures { (notes : Notes) → Coding (S.state scopes.old) (S.state scopes.new) notes notes fragments.old.nodes.items fragments.new.nodes.items site.now result IsFragment part (λ c. gives (spec_fit_of c.scene to operand)) }
+    ensures { (notes : Notes) → Coding (S.state scopes.old) (S.state scopes.new) notes notes fragments.old.nodes.items
+        fragments.new.nodes.items site.now result IsFragment part (λ c. gives (spec_fit_of c.scene to operand)) }
 {
     match operand {
         Operand::Variable(of) => fit_check(scopes, site, of, to, fragments),
@@ -91,7 +96,9 @@ pub fn fitted_code<S: Scopes>(
     requires suits { SuitsSite (S.state scopes.old).frame site.now }
     requires to { IsThere (S.state scopes.old).frame to }
     requires x { IsCoded (S.state scopes.old).frame fragments.old.nodes.items x }
-    ensures { (notes : Notes) → Coding (S.state scopes.old) (S.state scopes.new) notes notes fragments.old.nodes.items fragments.new.nodes.items site.now result IsFragment part (λ c. gives (spec_fitted c to (coded_in fragments.old.nodes.items x))) }
+    ensures { (notes : Notes) → Coding (S.state scopes.old) (S.state scopes.new) notes notes
+        fragments.old.nodes.items fragments.new.nodes.items site.now result IsFragment part
+        (λ c. gives (spec_fitted c to (coded_in fragments.old.nodes.items x))) }
 {
     let value = analysed!(value_code(scopes, site, x, fragments));
     let fit = analysed!(fit_of(scopes, site, to, x.operand, fragments));

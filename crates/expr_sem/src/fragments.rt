@@ -1,8 +1,10 @@
 //! Fragments of code: each is made of earlier ones, so that no code is copied while a statement is put together.
 ghost use Rattle.std.specs.Prelude.{◌≡◌, ◌∷◌, [], length};
 ghost use Rattle.expr_sem.specs.Arguments.{string_copy as spec_copy};
-ghost use Rattle.expr_sem.specs.Fragments.{AreSound, IsIn, IsMade, IsMadeOf, jump_of, part, part_by, parts_after, step_view};
-ghost use Rattle.expr_sem.specs.Parts.{Spot, plain, skip as spec_skip, steps, steps_size, text as spec_text, with_record as spec_record, ◌⨟◌};
+ghost use Rattle.expr_sem.specs.Fragments.{AreSound, IsIn, IsMade, IsMadeOf, jump_of, part, part_by, parts_after};
+ghost use Rattle.expr_sem.specs.Fragments.{step_view};
+ghost use Rattle.expr_sem.specs.Parts.{Spot, plain, skip as spec_skip, steps, steps_size, text as spec_text};
+ghost use Rattle.expr_sem.specs.Parts.{with_record as spec_record, ◌⨟◌};
 
 use crate::steps::Step;
 use code_form::Instr;
@@ -96,7 +98,8 @@ impl Fragments {
     /// The length of its code in bytes.
     pub fn size(&self, fragment: Fragment) -> u64
         requires there { IsIn self.now.nodes.items fragment }
-        ensures { AreSound self.now.nodes.items → (at : Spot) → steps_size (part self.now.nodes.items fragment at).code ≡ result }
+        ensures { AreSound self.now.nodes.items → (at : Spot)
+            → steps_size (part self.now.nodes.items fragment at).code ≡ result }
     {
         match fragment {
             Fragment::Nothing => 0,
@@ -107,8 +110,10 @@ impl Fragments {
     /// A further node, with the length of its code.
     fn push(&mut self, form: Form, size: u64) -> Result<Fragment, Memory>
         requires earlier { IsMadeOf (length self.now.nodes.items) form }
-        requires size { AreSound self.now.nodes.items → (at : Spot) → steps_size (part_by (parts_after [] self.now.nodes.items) form at).code ≡ size }
-        ensures made { IsMade self.old.nodes.items self.new.nodes.items result (part_by (parts_after [] self.old.nodes.items) form) }
+        requires size { AreSound self.now.nodes.items → (at : Spot)
+            → steps_size (part_by (parts_after [] self.now.nodes.items) form at).code ≡ size }
+        ensures made { IsMade self.old.nodes.items self.new.nodes.items result
+            (part_by (parts_after [] self.old.nodes.items) form) }
     {
         let Ok(number) = u32::try_from(self.nodes.len()) else {
             return Err(Memory);
@@ -133,7 +138,8 @@ impl Fragments {
 
     /// One fragment after another.
     pub fn then(&mut self, first: Fragment, second: Fragment) -> Result<Fragment, Memory>
-        ensures made { IsMade self.old.nodes.items self.new.nodes.items result (part self.old.nodes.items first ⨟ part self.old.nodes.items second) }
+        ensures made { IsMade self.old.nodes.items self.new.nodes.items result
+            (part self.old.nodes.items first ⨟ part self.old.nodes.items second) }
     {
         let (first, second) = (self.own(first), self.own(second));
         let Some(size) = self.size(first).checked_add(self.size(second)) else {
@@ -144,7 +150,8 @@ impl Fragments {
 
     /// A fragment that is skipped where the operand before it decides.
     pub fn skip(&mut self, connective: Connective, skipped: Fragment) -> Result<Fragment, Memory>
-        ensures made { IsMade self.old.nodes.items self.new.nodes.items result (spec_skip (jump_of connective) (part self.old.nodes.items skipped)) }
+        ensures made { IsMade self.old.nodes.items self.new.nodes.items result
+            (spec_skip (jump_of connective) (part self.old.nodes.items skipped)) }
     {
         let skipped = self.own(skipped);
         let jump = connective.jump(0).size();

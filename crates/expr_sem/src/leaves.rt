@@ -20,7 +20,8 @@ pub(crate) fn type_noted<S: Scopes>(
 ) -> Result<Ask<Place>, Memory>
     requires suits { SuitsSite (S.state scopes.old).frame site.now }
     requires x { IsOperand (S.state scopes.old).frame x }
-    ensures { (nodes : List Node) → Coding (S.state scopes.old) (S.state scopes.new) notes.old notes.new nodes nodes site.now result IsPlace place_in (λ c. spec_set_type c at x) }
+    ensures { (nodes : List Node) → Coding (S.state scopes.old) (S.state scopes.new) notes.old notes.new nodes nodes
+        site.now result IsPlace place_in (λ c. spec_set_type c at x) }
 {
     let given = set_type_of(scopes, site, at, x);
     note_type(site.around.text, given, notes)

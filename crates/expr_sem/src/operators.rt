@@ -12,7 +12,9 @@ ghost use Rattle.expr_sem.specs.Coders.{Codes, Keeps, SuitsPlace, frame_of, node
 ghost use Rattle.expr_sem.specs.Coded.{value_code as spec_value, with_char as spec_char};
 ghost use Rattle.expr_sem.specs.Codings.{Coding, IsCoded, IsFragment, coded_in};
 ghost use Rattle.expr_sem.specs.Fragments.{IsIn, IsMade, jump_of, part};
-ghost use Rattle.expr_sem.specs.Operators.{made as spec_made, one_coded as spec_one, one_instr, operation_code as spec_operation, scalar_instr, set_instr, side_of as spec_side, two_coded as spec_two, two_instr};
+ghost use Rattle.expr_sem.specs.Operators.{made as spec_made, one_coded as spec_one, one_instr};
+ghost use Rattle.expr_sem.specs.Operators.{operation_code as spec_operation, scalar_instr, set_instr};
+ghost use Rattle.expr_sem.specs.Operators.{side_of as spec_side, two_coded as spec_two, two_instr};
 ghost use Rattle.expr_sem.specs.Parts.{plain, skip, ◌⨟◌};
 ghost use Rattle.expr_sem.specs.declared.fragments.Node.{Node};
 ghost use Rattle.type_rules.specs.Asks.{Reads, WhereKnown, WhereWaiting};
@@ -31,7 +33,8 @@ use m2_base::{Ask, Memory, Notes, Operand, Operator, Place, RowMeaning, Scopes, 
 use type_rules::{INTEGER, base_of, operand_type, stand};
 
 /// What a rule on operands has made: its result, as const_eval gave that, with the code that computes it. A constant
-/// goes without the code, since it is pushed where it is wanted, and what is neither computed nor constant is in error.
+/// goes without the code, since it is pushed where it is wanted,
+/// and what is neither computed nor constant is in error.
 pub fn made(operand: Operand, code: Fragment) -> Coded
     ensures told { (nodes : List Node) → coded_in nodes result ≡ spec_made operand (part nodes code) }
     ensures there { (f : Frame) (nodes : List Node) → IsOperand f operand → IsIn nodes code → IsCoded f nodes result }
@@ -88,7 +91,8 @@ pub fn side_of<S: Scopes>(scopes: &mut S, site: &Site, of: Place) -> Ask<u8>
     ensures reads { Reads (S.state scopes.old) (S.state scopes.new) }
     ensures waits { WhereWaiting result (λ head. Waits (S.state scopes.old) (S.state scopes.new) head) }
     ensures told { WhereTold (S.state scopes.old).frame (λ made.
-        WhereKnown result (λ side. let c = context_of (S.state scopes.old).frame made site.now in side ≡ spec_side c.scene of)) }
+        WhereKnown result (λ side. let c = context_of (S.state scopes.old).frame made site.now in
+        side ≡ spec_side c.scene of)) }
 {
     let base = known!(base_of(scopes, site.around, of));
     Ask::Known(if base == INTEGER { 0 } else { 1 })
@@ -116,7 +120,8 @@ fn instruction<S: Scopes>(
     ensures reads { Reads (S.state scopes.old) (S.state scopes.new) }
     ensures waits { WhereWaiting result (λ head. Waits (S.state scopes.old) (S.state scopes.new) head) }
     ensures told { WhereTold (S.state scopes.old).frame (λ made.
-        WhereKnown result (λ instr. let c = context_of (S.state scopes.old).frame made site.now in instr ≡ two_instr c.scene op of right)) }
+        WhereKnown result (λ instr. let c = context_of (S.state scopes.old).frame made site.now in
+        instr ≡ two_instr c.scene op of right)) }
 {
     let (_, meaning) = known!(stand(scopes, site.around, right));
     if is_set(meaning) {
@@ -140,7 +145,8 @@ fn sign(fragments: &mut Fragments, op: Operator) -> Result<Fragment, Memory>
 /// A value, and then the operator that stands before it.
 fn signed(fragments: &mut Fragments, op: Operator, value: Fragment) -> Result<Fragment, Memory>
     requires { IsIn fragments.old.nodes.items value }
-    ensures { IsMade fragments.old.nodes.items fragments.new.nodes.items result (part fragments.old.nodes.items value ⨟ plain (one_instr op)) }
+    ensures { IsMade fragments.old.nodes.items fragments.new.nodes.items result
+        (part fragments.old.nodes.items value ⨟ plain (one_instr op)) }
 {
     let last = sign(fragments, op)?;
     fragments.then(value, last)
@@ -155,15 +161,16 @@ fn decide(
 ) -> Result<Fragment, Memory>
     requires x { IsIn fragments.old.nodes.items x }
     requires y { IsIn fragments.old.nodes.items y }
-    ensures { IsMade fragments.old.nodes.items fragments.new.nodes.items result (part fragments.old.nodes.items x ⨟ skip (jump_of connective) (part fragments.old.nodes.items y)) }
+    ensures { IsMade fragments.old.nodes.items fragments.new.nodes.items result
+        (part fragments.old.nodes.items x ⨟ skip (jump_of connective) (part fragments.old.nodes.items y)) }
 {
     let skipped = fragments.skip(connective, y)?;
     fragments.then(x, skipped)
 }
 
 impl<S: Scopes> Coder<'_, '_, S> {
-    /// NOT, plus or minus, at the token `op_at`, before an operand: what const_eval's `applied_one` gives, and unless that
-    /// is constant the operand's value and then `Not`, nothing, or `Neg`. It waits for the operand's type.
+    /// NOT, plus or minus, at the token `op_at`, before an operand: what const_eval's `applied_one` gives, and unless
+    /// that is constant the operand's value and then `Not`, nothing, or `Neg`. It waits for the operand's type.
     pub(crate) fn one_coded(
         &mut self,
         op: Operator,
@@ -173,7 +180,8 @@ impl<S: Scopes> Coder<'_, '_, S> {
         requires suits { SuitsPlace S.state self.old }
         requires x { IsCoded (frame_of S.state self.old) (nodes_of self.old) x }
         ensures keeps { Keeps self.old self.new }
-        ensures codes { Codes S.state self.old self.new result IsCoded coded_in (λ c. spec_one c op op_at (coded_in (nodes_of self.old) x)) }
+        ensures codes { Codes S.state self.old self.new result IsCoded coded_in
+            (λ c. spec_one c op op_at (coded_in (nodes_of self.old) x)) }
     {
         let operator = PlacedOperator {
             at: op_at,
@@ -192,7 +200,8 @@ impl<S: Scopes> Coder<'_, '_, S> {
 /// A string of one character as a CHAR, anything else as it is.
 fn char_operand(site: &Site, operand: Operand) -> Operand
     requires { IsNamed site.now.texts.now.names operand }
-    ensures told { (source : Source) → source.spellings ≡ site.now.texts.now.names → result ≡ spec_same source operand }
+    ensures told { (source : Source) → source.spellings ≡ site.now.texts.now.names
+        → result ≡ spec_same source operand }
     ensures there { (f : Frame) → IsThere f character → IsOperand f operand → IsOperand f result }
 {
     let texts = site.texts;
@@ -209,7 +218,9 @@ fn char_value<S: Scopes>(
 ) -> Result<Ask<Fragment>, Memory>
     requires suits { SuitsSite (S.state scopes.old).frame site.now }
     requires x { IsCoded (S.state scopes.old).frame fragments.old.nodes.items x }
-    ensures { (notes : NotesOf) → Coding (S.state scopes.old) (S.state scopes.new) notes notes fragments.old.nodes.items fragments.new.nodes.items site.now result IsFragment part (λ c. gives (spec_value c (spec_char c (coded_in fragments.old.nodes.items x)))) }
+    ensures { (notes : NotesOf) → Coding (S.state scopes.old) (S.state scopes.new) notes notes
+        fragments.old.nodes.items fragments.new.nodes.items site.now result IsFragment part
+        (λ c. gives (spec_value c (spec_char c (coded_in fragments.old.nodes.items x)))) }
 {
     let operand = char_operand(site, x.operand);
     value_code(scopes, site, x.taken(operand), fragments)
@@ -229,7 +240,9 @@ impl<S: Scopes> Coder<'_, '_, S> {
         requires x { IsCoded (frame_of S.state self.old) (nodes_of self.old) x }
         requires y { IsCoded (frame_of S.state self.old) (nodes_of self.old) y }
         ensures keeps { Keeps self.old self.new }
-        ensures codes { Codes S.state self.old self.new result IsFragment part (λ c. gives (spec_operation c.scene op of (spec_type y.operand) (spec_value c (spec_char c (coded_in (nodes_of self.old) x))) (spec_value c (spec_char c (coded_in (nodes_of self.old) y))))) }
+        ensures codes { Codes S.state self.old self.new result IsFragment part
+            (λ c. gives (spec_operation c.scene op of (spec_type y.operand) (spec_value c (spec_char c
+            (coded_in (nodes_of self.old) x))) (spec_value c (spec_char c (coded_in (nodes_of self.old) y))))) }
     {
         let left = analysed!(char_value(self.scopes, self.site, x, self.fragments));
         let right = analysed!(char_value(self.scopes, self.site, y, self.fragments));
@@ -250,8 +263,9 @@ impl<S: Scopes> Coder<'_, '_, S> {
     }
 
     /// An operator, at the token `op_at`, between two operands: what const_eval's `operated` gives, and unless that is
-    /// constant the left value, the right one, and the instruction. By the report p OR q means "if p then TRUE, otherwise
-    /// q": there, and with AND, a jump skips the right value where the left one decides. It waits for both types.
+    /// constant the left value, the right one, and the instruction. By the report p OR q means "if p then TRUE,
+    /// otherwise q": there, and with AND, a jump skips the right value where the left one decides.
+    /// It waits for both types.
     pub(crate) fn two_coded(
         &mut self,
         op: Operator,
@@ -263,7 +277,8 @@ impl<S: Scopes> Coder<'_, '_, S> {
         requires x { IsCoded (frame_of S.state self.old) (nodes_of self.old) x.coded }
         requires y { IsCoded (frame_of S.state self.old) (nodes_of self.old) y.coded }
         ensures keeps { Keeps self.old self.new }
-        ensures codes { Codes S.state self.old self.new result IsCoded coded_in (λ c. spec_two c op op_at x.at (coded_in (nodes_of self.old) x.coded) y.at (coded_in (nodes_of self.old) y.coded)) }
+        ensures codes { Codes S.state self.old self.new result IsCoded coded_in (λ c. spec_two c op op_at x.at
+            (coded_in (nodes_of self.old) x.coded) y.at (coded_in (nodes_of self.old) y.coded)) }
     {
         let left = Argument {
             at: x.at,

@@ -20,15 +20,16 @@ pub struct Piece {
     pub byte: u32,
 }
 
-/// An open WITH: the type of its record, and the cell that has the record's address. In a list the innermost is the first.
+/// An open WITH: the type of its record, and the cell that has the record's address.
+/// In a list the innermost is the first.
 #[derive(Clone, Copy, Debug, PartialEq, Eq)]
 pub struct With {
     pub of: Place,
     pub cell: u32,
 }
 
-/// Appends a fragment, one of `fragments`, to a piece of a block's code, within the open WITHs: its steps, its bytes of
-/// data, and the temporary cells that it takes. Without memory the piece has what it had before, and no more.
+/// Appends a fragment, one of `fragments`, to a piece of a block's code, within the open WITHs: its steps, its bytes
+/// of data, and the temporary cells that it takes. Without memory the piece has what it had before, and no more.
 pub fn append(
     fragments: &Fragments,
     fragment: Fragment,

@@ -9,7 +9,11 @@ ghost use Rattle.m2_base.specs.Statics.Lookup.{entry_in};
 ghost use Rattle.m2_base.specs.declared.notes.Notes.{Notes};
 ghost use Rattle.expr_sem.specs.Codings.{Coding, IsFragment};
 ghost use Rattle.expr_sem.specs.Fragments.{part};
-ghost use Rattle.expr_sem.specs.ProcedureNames.{import_number as spec_import_number, import_of_target as spec_import, is_foreign as spec_foreign, is_own as spec_own, is_own_definition as spec_own_definition, procedure_code as spec_code, target_by as spec_by, target_of_entry as spec_of_entry, target_of_procedure as spec_target};
+ghost use Rattle.expr_sem.specs.ProcedureNames.{import_number as spec_import_number, import_of_target as spec_import};
+ghost use Rattle.expr_sem.specs.ProcedureNames.{is_foreign as spec_foreign, is_own as spec_own};
+ghost use Rattle.expr_sem.specs.ProcedureNames.{is_own_definition as spec_own_definition, procedure_code as spec_code};
+ghost use Rattle.expr_sem.specs.ProcedureNames.{target_by as spec_by, target_of_entry as spec_of_entry};
+ghost use Rattle.expr_sem.specs.ProcedureNames.{target_of_procedure as spec_target};
 ghost use Rattle.expr_sem.specs.Targets.{target_view};
 ghost use Rattle.type_rules.specs.Asks.{Reads, WhereKnown, WhereWaiting};
 ghost use Rattle.type_rules.specs.Scenes.{IsRowOf, IsThere, WhereTold, block_of, rows_of, scene_of};
@@ -42,8 +46,8 @@ pub fn is_own(around: &Around, scope: u32) -> bool
     scope == around.module || is_own_definition(around.own, scope)
 }
 
-/// The number of a definition module among the imports, from 1: all of them in the order of their scopes, without the own
-/// definition.
+/// The number of a definition module among the imports, from 1: all of them in the order of their scopes, without the
+/// own definition.
 pub fn import_number(around: &Around, scope: u32) -> u32
     ensures { result ≡ spec_import_number (block_of around.now) scope }
 {
@@ -80,8 +84,10 @@ fn own_entry<S: Scopes>(scopes: &mut S, site: &Site, name: u32) -> Ask<Option<(P
     ensures reads { Reads (S.state scopes.old) (S.state scopes.new) }
     ensures waits { WhereWaiting result (λ head. Waits (S.state scopes.old) (S.state scopes.new) head) }
     ensures told { WhereTold (S.state scopes.old).frame (λ made.
-        WhereKnown result (λ entry. entry ≡ entry_in (rows_of (S.state scopes.old).frame made) site.now.around.now.module name)) }
-    ensures row { WhereKnown result (λ entry. IfSome entry (λ entry. IsRowOf (S.state scopes.old).frame entry.0 entry.1)) }
+        WhereKnown result
+        (λ entry. entry ≡ entry_in (rows_of (S.state scopes.old).frame made) site.now.around.now.module name)) }
+    ensures row { WhereKnown result
+        (λ entry. IfSome entry (λ entry. IsRowOf (S.state scopes.old).frame entry.0 entry.1)) }
 {
     match scopes.search(0, &[site.around.module], name) {
         Reply::Found(place, row) => Ask::Known(Some((place, row))),
@@ -108,7 +114,8 @@ fn target_by(place: Place, row: &Row) -> Option<Target>
 fn target_of_entry(entry: Option<(Place, Row)>) -> Option<Target>
     requires small { IfSome entry (λ entry. HasSmallNumbers (row_meaning entry.1)) }
     ensures told { option_map target_view result ≡ spec_of_entry entry }
-    ensures there { (f : Frame) → IfSome entry (λ entry. IsRowOf f entry.0 entry.1) → IfSome result (λ target. IsThere f target.of) }
+    ensures there { (f : Frame) → IfSome entry (λ entry. IsRowOf f entry.0 entry.1)
+        → IfSome result (λ target. IsThere f target.of) }
 {
     match entry {
         Some((place, row)) => target_by(place, &row),
@@ -125,8 +132,10 @@ fn own_target<S: Scopes>(scopes: &mut S, site: &Site, name: u32) -> Ask<Option<T
     ensures reads { Reads (S.state scopes.old) (S.state scopes.new) }
     ensures waits { WhereWaiting result (λ head. Waits (S.state scopes.old) (S.state scopes.new) head) }
     ensures told { WhereTold (S.state scopes.old).frame (λ made.
-        WhereKnown result (λ given. option_map target_view given ≡ spec_of_entry (entry_in (rows_of (S.state scopes.old).frame made) site.now.around.now.module name))) }
-    ensures there { WhereKnown result (λ given. IfSome given (λ target. IsThere (S.state scopes.old).frame target.of)) }
+        WhereKnown result (λ given. option_map target_view given
+        ≡ spec_of_entry (entry_in (rows_of (S.state scopes.old).frame made) site.now.around.now.module name))) }
+    ensures there { WhereKnown result
+        (λ given. IfSome given (λ target. IsThere (S.state scopes.old).frame target.of)) }
 {
     let entry = known!(own_entry(scopes, site, name));
     Ask::Known(target_of_entry(entry))
@@ -159,8 +168,8 @@ pub fn target_of_procedure<S: Scopes>(
     Ok(own_target(scopes, site, name))
 }
 
-/// The code of a procedure as a value. Where the module lacks the procedure, its definition isn't implemented, which is
-/// refused elsewhere.
+/// The code of a procedure as a value. Where the module lacks the procedure, its definition isn't implemented, which
+/// is refused elsewhere.
 pub fn procedure_code<S: Scopes>(
     scopes: &mut S,
     site: &Site,

@@ -13,7 +13,9 @@ ghost use Rattle.expr_sem.specs.Coders.{Codes, Keeps, SeesWiths, SuitsPlace, fra
 ghost use Rattle.expr_sem.specs.Codings.{IsCoded, coded_in, with_types};
 ghost use Rattle.expr_sem.specs.Fragments.{IsIn, IsMade, part};
 ghost use Rattle.expr_sem.specs.Parts.{◌⨟◌};
-ghost use Rattle.expr_sem.specs.RecordFields.{field_coded as spec_field_coded, name_coded as spec_name, of_record as spec_of_record, offset_code as spec_offset, select_field as spec_field};
+ghost use Rattle.expr_sem.specs.RecordFields.{field_coded as spec_field_coded, name_coded as spec_name};
+ghost use Rattle.expr_sem.specs.RecordFields.{of_record as spec_of_record, offset_code as spec_offset};
+ghost use Rattle.expr_sem.specs.RecordFields.{select_field as spec_field};
 ghost use Rattle.expr_sem.specs.Selections.{IsField, with_number as spec_number};
 ghost use Rattle.expr_sem.specs.Variables.{entry_coded as spec_entry};
 
@@ -34,7 +36,8 @@ use type_rules::{field_of, stand, use_name};
 /// The address of so many cells behind the one that this code gives; an offset of 0 is left out.
 fn code_behind(code: Fragment, offset: u32, fragments: &mut Fragments) -> Result<Fragment, Memory>
     requires there { IsIn fragments.old.nodes.items code }
-    ensures { IsMade fragments.old.nodes.items fragments.new.nodes.items result (part fragments.old.nodes.items code ⨟ spec_offset offset) }
+    ensures { IsMade fragments.old.nodes.items fragments.new.nodes.items result
+        (part fragments.old.nodes.items code ⨟ spec_offset offset) }
 {
     if offset == 0 {
         return fragments.then(code, Fragment::Nothing);
@@ -50,7 +53,8 @@ impl<S: Scopes> Coder<'_, '_, S> {
         requires field { IsField (frame_of S.state self.old) (row_meaning field) }
         requires code { IsIn (nodes_of self.old) code }
         ensures keeps { Keeps self.old self.new }
-        ensures codes { Codes S.state self.old self.new result IsCoded coded_in (λ c. gives (spec_field_coded c.scene (part (nodes_of self.old) code) field)) }
+        ensures codes { Codes S.state self.old self.new result IsCoded coded_in
+            (λ c. gives (spec_field_coded c.scene (part (nodes_of self.old) code) field)) }
     {
         let RowMeaning::Field(of, offset, _, _) = read_row(&field) else {
             return Ok(Ask::Known(Coded::in_error()));
@@ -76,8 +80,10 @@ pub fn field_of_withs<S: Scopes>(
     ensures reads { Reads (S.state scopes.old) (S.state scopes.new) }
     ensures waits { WhereWaiting result (λ head. Waits (S.state scopes.old) (S.state scopes.new) head) }
     ensures told { WhereTold (S.state scopes.old).frame (λ made.
-        WhereKnown result (λ found. found ≡ spec_number (scene_of (S.state scopes.old).frame made around.now) 0 (with_types withs.now) name)) }
-    ensures field { WhereKnown result (λ found. IfSome found (λ found. IsField (S.state scopes.old).frame (row_meaning found.1))) }
+        WhereKnown result (λ found.
+        found ≡ spec_number (scene_of (S.state scopes.old).frame made around.now) 0 (with_types withs.now) name)) }
+    ensures field { WhereKnown result
+        (λ found. IfSome found (λ found. IsField (S.state scopes.old).frame (row_meaning found.1))) }
 {
     for number in 0..withs.len() {
         if let Some(field) = known!(field_of(scopes, around, withs[number].of, name)) {
@@ -94,7 +100,8 @@ impl<S: Scopes> Coder<'_, '_, S> {
         requires within { IfSome within (λ scope. scope < fills_of (S.state self.old.scopes.now)) }
         requires named { ident.name ≢ 0 }
         ensures keeps { Keeps self.old self.new }
-        ensures codes { Codes S.state self.old self.new result IsCoded coded_in (λ c. and_then (use_of c within ident.name ident.at) (λ e. gives (spec_entry c e))) }
+        ensures codes { Codes S.state self.old self.new result IsCoded coded_in
+            (λ c. and_then (use_of c within ident.name ident.at) (λ e. gives (spec_entry c e))) }
     {
         let entry = analysed!(use_name(
             self.scopes,
@@ -107,13 +114,15 @@ impl<S: Scopes> Coder<'_, '_, S> {
         entry_coded(self.scopes, self.site, entry, self.fragments)
     }
 
-    /// A name where a designator begins: a field of an open WITH's record, the innermost first, or what the name is bound to.
+    /// A name where a designator begins: a field of an open WITH's record, the innermost first,
+    /// or what the name is bound to.
     pub(crate) fn name_coded(&mut self, ident: Ident) -> Result<Ask<Coded>, Memory>
         requires suits { SuitsPlace S.state self.old }
         requires withs { SeesWiths S.state self.old }
         requires named { ident.name ≢ 0 }
         ensures keeps { Keeps self.old self.new }
-        ensures codes { Codes S.state self.old self.new result IsCoded coded_in (λ c. spec_name c (with_types self.old.withs.now) ident) }
+        ensures codes { Codes S.state self.old self.new result IsCoded coded_in
+            (λ c. spec_name c (with_types self.old.withs.now) ident) }
     {
         match asked!(field_of_withs(self.scopes, self.site.around, self.withs, ident.name)) {
             Some((number, field)) => {
@@ -141,7 +150,8 @@ impl<S: Scopes> Coder<'_, '_, S> {
         requires of { IsThere (frame_of S.state self.old) of }
         requires code { IsIn (nodes_of self.old) code }
         ensures keeps { Keeps self.old self.new }
-        ensures codes { Codes S.state self.old self.new result IsCoded coded_in (λ c. spec_of_record c at (part (nodes_of self.old) code) ident of (kind_of c.scene of)) }
+        ensures codes { Codes S.state self.old self.new result IsCoded coded_in
+            (λ c. spec_of_record c at (part (nodes_of self.old) code) ident of (kind_of c.scene of)) }
     {
         let (_, meaning) = asked!(stand(self.scopes, self.site.around, of));
         let RowMeaning::Record(..) = meaning else {
@@ -165,7 +175,8 @@ impl<S: Scopes> Coder<'_, '_, S> {
         requires x { IsCoded (frame_of S.state self.old) (nodes_of self.old) x }
         requires named { ident.name ≢ 0 }
         ensures keeps { Keeps self.old self.new }
-        ensures codes { Codes S.state self.old self.new result IsCoded coded_in (λ c. spec_field c first at ident (coded_in (nodes_of self.old) x)) }
+        ensures codes { Codes S.state self.old self.new result IsCoded coded_in
+            (λ c. spec_field c first at ident (coded_in (nodes_of self.old) x)) }
     {
         match x.operand {
             Operand::ModuleName(scope) => self.name_used(Some(scope), ident),

@@ -18,7 +18,8 @@ pub fn refused(
     refusal: Diagnostic,
     notes: &mut Notes,
 ) -> Result<Ask<Coded>, Memory>
-    ensures { (state : State) (nodes : List Node) → Coding state state notes.old notes.new nodes nodes site.now result IsCoded coded_in (λ c. spec_refuse c at (code_of refusal) in_error) }
+    ensures { (state : State) (nodes : List Node) → Coding state state notes.old notes.new nodes nodes site.now result
+        IsCoded coded_in (λ c. spec_refuse c at (code_of refusal) in_error) }
 {
     notes.refuse(site.around.text, at, refusal)?;
     Ok(Ask::Known(Coded::in_error()))

@@ -41,8 +41,8 @@ fn target_of<S: Scopes>(scopes: &mut S, around: &Around, of: Place) -> Ask<Place
     }
 }
 
-/// NEW of a pointer, unless it is in error or what it points to is. Only statements ask for it; elsewhere the error is that
-/// memory is wanted, which comes about in no module.
+/// NEW of a pointer, unless it is in error or what it points to is. Only statements ask for it; elsewhere the error is
+/// that memory is wanted, which comes about in no module.
 pub fn new_room<S: Scopes>(
     scopes: &mut S,
     site: &Site,
@@ -51,7 +51,9 @@ pub fn new_room<S: Scopes>(
 ) -> Result<Ask<Coded>, Memory>
     requires suits { SuitsSite (S.state scopes.old).frame site.now }
     requires x { IsCoded (S.state scopes.old).frame fragments.old.nodes.items x }
-    ensures { (notes : NotesOf) → Coding (S.state scopes.old) (S.state scopes.new) notes notes fragments.old.nodes.items fragments.new.nodes.items site.now result IsCoded coded_in (λ c. gives (spec_new c (coded_in fragments.old.nodes.items x))) }
+    ensures { (notes : NotesOf) → Coding (S.state scopes.old) (S.state scopes.new) notes notes
+        fragments.old.nodes.items fragments.new.nodes.items site.now result IsCoded coded_in
+        (λ c. gives (spec_new c (coded_in fragments.old.nodes.items x))) }
 {
     if is_bad(x.operand) {
         return Ok(Ask::Known(Coded::in_error()));
@@ -71,7 +73,9 @@ pub fn new_room<S: Scopes>(
 /// DISPOSE of a pointer, unless it is in error.
 pub fn disposed(x: Coded, fragments: &mut Fragments) -> Result<Ask<Coded>, Memory>
     requires { IsIn fragments.old.nodes.items x.code }
-    ensures { (state : State) (notes : NotesOf) (site : SiteOf) → SuitsSite state.frame site → Coding state state notes notes fragments.old.nodes.items fragments.new.nodes.items site result IsCoded coded_in (λ c. gives (spec_disposed (coded_in fragments.old.nodes.items x))) }
+    ensures { (state : State) (notes : NotesOf) (site : SiteOf) → SuitsSite state.frame site
+        → Coding state state notes notes fragments.old.nodes.items fragments.new.nodes.items site result IsCoded
+        coded_in (λ c. gives (spec_disposed (coded_in fragments.old.nodes.items x))) }
 {
     if is_bad(x.operand) {
         return Ok(Ask::Known(Coded::in_error()));

@@ -29,15 +29,17 @@ use code_form::Instr;
 use const_eval::{Argument, no_elements, set_base, taken, with_elements};
 use m2_base::{Ask, Memory, Operand, Place, Scopes, Site};
 
-/// What the elements make so far: the set by the static rule, and the code that adds each of them to the set on the stack.
+/// What the elements make so far: the set by the static rule, and the code that adds each
+/// of them to the set on the stack.
 #[derive(Clone, Copy, Debug, PartialEq, Eq)]
 pub struct Elements {
     pub set: Operand,
     pub code: Fragment,
 }
 
-/// What a set of the type `of` begins with: the type's base, with which each element must be compatible, and no element
-/// yet. Of a type that is no set, or whose base is in error, the set is in error. It waits for the type and its base.
+/// What a set of the type `of` begins with: the type's base, with which each element must be compatible, and no
+/// element yet. Of a type that is no set, or whose base is in error, the set is in error.
+/// It waits for the type and its base.
 #[tactic(auto, using(type_rules::proofs::Reading::reading, const_eval::proofs::TypesThere::there))]
 pub fn set_start<S: Scopes>(scopes: &mut S, site: &Site, of: Place) -> Ask<(Place, Elements)>
     requires suits { SuitsSite (S.state scopes.old).frame site.now }
@@ -45,11 +47,14 @@ pub fn set_start<S: Scopes>(scopes: &mut S, site: &Site, of: Place) -> Ask<(Plac
     ensures reads { Reads (S.state scopes.old) (S.state scopes.new) }
     ensures waits { WhereWaiting result (λ head. Waits (S.state scopes.old) (S.state scopes.new) head) }
     ensures based { WhereTold (S.state scopes.old).frame (λ made.
-        WhereKnown result (λ given. let c = context_of (S.state scopes.old).frame made site.now in given.0 ≡ spec_base c of)) }
+        WhereKnown result (λ given. let c = context_of (S.state scopes.old).frame made site.now in
+        given.0 ≡ spec_base c of)) }
     ensures told { WhereTold (S.state scopes.old).frame (λ made.
-        WhereKnown result (λ given. let c = context_of (S.state scopes.old).frame made site.now in (nodes : List Node) → elements_in nodes given.1 ≡ no_elements_yet c of)) }
+        WhereKnown result (λ given. let c = context_of (S.state scopes.old).frame made site.now in
+        (nodes : List Node) → elements_in nodes given.1 ≡ no_elements_yet c of)) }
     ensures base { WhereKnown result (λ given. IsThere (S.state scopes.old).frame given.0) }
-    ensures elements { WhereKnown result (λ given. (nodes : List Node) → AreElements (S.state scopes.old).frame nodes given.1) }
+    ensures elements { WhereKnown result
+        (λ given. (nodes : List Node) → AreElements (S.state scopes.old).frame nodes given.1) }
 {
     let base = known!(set_base(scopes, site, of));
     let set = known!(no_elements(scopes, site, of));
@@ -63,7 +68,8 @@ pub fn set_start<S: Scopes>(scopes: &mut S, site: &Site, of: Place) -> Ask<(Plac
 /// An element or a bound, as the static rule takes it.
 fn element_as(x: Coded, operand: Operand) -> Coded
     ensures told { (nodes : List Node) → coded_in nodes result ≡ spec_as (coded_in nodes x) operand }
-    ensures there { (f : Frame) (nodes : List Node) → IsOperand f operand → IsCoded f nodes x → IsCoded f nodes result }
+    ensures there { (f : Frame) (nodes : List Node) → IsOperand f operand → IsCoded f nodes x
+        → IsCoded f nodes result }
 {
     match operand {
         Operand::InError => Coded::in_error(),
@@ -101,7 +107,8 @@ fn joined(
 ) -> Result<Fragment, Memory>
     requires x { IsIn fragments.old.nodes.items x }
     requires y { IsIn fragments.old.nodes.items y }
-    ensures { IsMade fragments.old.nodes.items fragments.new.nodes.items result (part fragments.old.nodes.items x ⨟ part fragments.old.nodes.items y ⨟ plain (instr ∷ Instr.Union ∷ [])) }
+    ensures { IsMade fragments.old.nodes.items fragments.new.nodes.items result
+        (part fragments.old.nodes.items x ⨟ part fragments.old.nodes.items y ⨟ plain (instr ∷ Instr.Union ∷ [])) }
 {
     let last = pair(instr, Instr::Union, fragments)?;
     after_both(fragments, x, y, last)
@@ -153,7 +160,9 @@ fn with_span(
     requires set { IsIn fragments.old.nodes.items set }
     requires low { IsIn fragments.old.nodes.items low }
     requires high { IsIn fragments.old.nodes.items high }
-    ensures { IsMade fragments.old.nodes.items fragments.new.nodes.items result (part fragments.old.nodes.items set ⨟ part fragments.old.nodes.items low ⨟ part fragments.old.nodes.items high ⨟ plain (Instr.Span ∷ Instr.Union ∷ [])) }
+    ensures { IsMade fragments.old.nodes.items fragments.new.nodes.items result
+        (part fragments.old.nodes.items set ⨟ part fragments.old.nodes.items low ⨟ part fragments.old.nodes.items high
+        ⨟ plain (Instr.Span ∷ Instr.Union ∷ [])) }
 {
     let rest = joined(fragments, low, high, Instr::Span)?;
     fragments.then(set, rest)
@@ -227,7 +236,8 @@ impl<S: Scopes> Coder<'_, '_, S> {
 /// The empty set, and then the code that adds the elements.
 fn from_empty(fragments: &mut Fragments, code: Fragment) -> Result<Fragment, Memory>
     requires { IsIn fragments.old.nodes.items code }
-    ensures { IsMade fragments.old.nodes.items fragments.new.nodes.items result (plain (Instr.Push (pos 0) ∷ []) ⨟ part fragments.old.nodes.items code) }
+    ensures { IsMade fragments.old.nodes.items fragments.new.nodes.items result
+        (plain (Instr.Push (pos 0) ∷ []) ⨟ part fragments.old.nodes.items code) }
 {
     let empty = fragments.one(Instr::Push(0))?;
     fragments.then(empty, code)
@@ -237,7 +247,10 @@ fn from_empty(fragments: &mut Fragments, code: Fragment) -> Result<Fragment, Mem
 /// `Push 0`, the empty set, and the code that adds each; in error where one of them or the base is. It never waits.
 pub fn set_coded(of: Place, es: Elements, fragments: &mut Fragments) -> Result<Ask<Coded>, Memory>
     requires code { IsIn fragments.old.nodes.items es.code }
-    ensures { (state : State) (notes : NotesOf) (site : SiteOf) → IsThere state.frame of → AreElements state.frame fragments.old.nodes.items es → Coding state state notes notes fragments.old.nodes.items fragments.new.nodes.items site result IsCoded coded_in (λ c. gives (spec_set of (elements_in fragments.old.nodes.items es))) }
+    ensures { (state : State) (notes : NotesOf) (site : SiteOf)
+        → IsThere state.frame of → AreElements state.frame fragments.old.nodes.items es
+        → Coding state state notes notes fragments.old.nodes.items fragments.new.nodes.items site result IsCoded
+        coded_in (λ c. gives (spec_set of (elements_in fragments.old.nodes.items es))) }
 {
     match es.set {
         Operand::Constant(_, bits) => { Ok(Ask::Known(Coded::bare(Operand::Constant(of, bits)))) }

@@ -33,7 +33,9 @@ fn element_of_base<S: Scopes>(
     requires suits { SuitsSite (S.state scopes.old).frame site.now }
     requires base { IsThere (S.state scopes.old).frame base }
     requires v { IsOperand (S.state scopes.old).frame v.coded.operand }
-    ensures { (nodes : List Node) → IsCoded (S.state scopes.old).frame nodes v.coded → Coding (S.state scopes.old) (S.state scopes.new) notes.old notes.new nodes nodes site.now result IsCoded coded_in (λ c. spec_element c v.at base (coded_in nodes v.coded)) }
+    ensures { (nodes : List Node) → IsCoded (S.state scopes.old).frame nodes v.coded
+        → Coding (S.state scopes.old) (S.state scopes.new) notes.old notes.new nodes nodes site.now result IsCoded
+        coded_in (λ c. spec_element c v.at base (coded_in nodes v.coded)) }
 {
     let broken = asked!(is_broken(scopes, site.around, base));
     if broken {
@@ -59,7 +61,9 @@ pub fn set_member<S: Scopes>(
     requires suits { SuitsSite (S.state scopes.old).frame site.now }
     requires x { IsOperand (S.state scopes.old).frame x.operand }
     requires e { (nodes : List Node) × IsCoded (S.state scopes.old).frame nodes e.coded }
-    ensures { (nodes : List Node) → IsCoded (S.state scopes.old).frame nodes e.coded → Coding (S.state scopes.old) (S.state scopes.new) notes.old notes.new nodes nodes site.now result IsCoded coded_in (λ c. spec_member c (coded_in nodes x) e.at (coded_in nodes e.coded)) }
+    ensures { (nodes : List Node) → IsCoded (S.state scopes.old).frame nodes e.coded
+        → Coding (S.state scopes.old) (S.state scopes.new) notes.old notes.new nodes nodes site.now result IsCoded
+        coded_in (λ c. spec_member c (coded_in nodes x) e.at (coded_in nodes e.coded)) }
 {
     let v = analysed!(as_value(site, e.at, e.coded, notes));
     if either_bad(x.operand, v.operand) {
@@ -90,7 +94,8 @@ impl<S: Scopes> Coder<'_, '_, S> {
         requires x { IsCoded (frame_of S.state self.old) (nodes_of self.old) x }
         requires e { IsCoded (frame_of S.state self.old) (nodes_of self.old) e }
         ensures keeps { Keeps self.old self.new }
-        ensures codes { Codes S.state self.old self.new result IsCoded coded_in (λ c. gives (spec_included c f (coded_in (nodes_of self.old) x) (coded_in (nodes_of self.old) e))) }
+        ensures codes { Codes S.state self.old self.new result IsCoded coded_in
+            (λ c. gives (spec_included c f (coded_in (nodes_of self.old) x) (coded_in (nodes_of self.old) e))) }
     {
         if either_bad(x.operand, e.operand) {
             return Ok(Ask::Known(Coded::in_error()));

@@ -58,7 +58,8 @@ fn parameters_of<S: Scopes>(
     ensures reads { Reads (S.state scopes.old) (S.state scopes.new) }
     ensures waits { IfWaits result (λ head. Waits (S.state scopes.old) (S.state scopes.new) head) }
     ensures told { WhereTold (S.state scopes.old).frame (λ made.
-        IfKnown result (λ params. map parameter_view params.items ≡ parameters_from (scene_of (S.state scopes.old).frame made around.now) form.of form.first)) }
+        IfKnown result (λ params. map parameter_view params.items
+        ≡ parameters_from (scene_of (S.state scopes.old).frame made around.now) form.of form.first)) }
     ensures there { IfKnown result (λ params. Each (λ p. IsThere (S.state scopes.old).frame p.of) params.items) }
 {
     let mut params = no_parameters(texts);
@@ -87,7 +88,8 @@ pub fn signature_by<S: Scopes>(
     ensures reads { Reads (S.state scopes.old) (S.state scopes.new) }
     ensures waits { IfWaits result (λ head. Waits (S.state scopes.old) (S.state scopes.new) head) }
     ensures told { WhereTold (S.state scopes.old).frame (λ made.
-        IfKnown result (λ signature. IsSignatureBy (scene_of (S.state scopes.old).frame made site.now.around.now) form signature)) }
+        IfKnown result
+        (λ signature. IsSignatureBy (scene_of (S.state scopes.old).frame made site.now.around.now) form signature)) }
     ensures there { IfKnown result (λ signature. IsSignature (S.state scopes.old).frame signature) }
 {
     let params = analysed!(parameters_of(scopes, site.texts, site.around, form));
@@ -107,7 +109,8 @@ pub fn signature_of<S: Scopes>(
     ensures reads { Reads (S.state scopes.old) (S.state scopes.new) }
     ensures waits { IfWaits result (λ head. Waits (S.state scopes.old) (S.state scopes.new) head) }
     ensures told { WhereTold (S.state scopes.old).frame (λ made.
-        IfKnown result (λ signature. IsSignatureOf (scene_of (S.state scopes.old).frame made site.now.around.now) of signature)) }
+        IfKnown result
+        (λ signature. IsSignatureOf (scene_of (S.state scopes.old).frame made site.now.around.now) of signature)) }
     ensures there { IfKnown result (λ signature. IsSignature (S.state scopes.old).frame signature) }
 {
     match form_of(scopes, site.around, of) {
@@ -143,7 +146,8 @@ pub fn cells_of_all<S: Scopes>(
     ensures reads { Reads (S.state scopes.old) (S.state scopes.new) }
     ensures waits { IfWaits result (λ head. Waits (S.state scopes.old) (S.state scopes.new) head) }
     ensures told { WhereTold (S.state scopes.old).frame (λ made.
-        IfKnown result (λ cells. cells ≡ spec_cells (scene_of (S.state scopes.old).frame made around.now) (map parameter_view params.now))) }
+        IfKnown result (λ cells.
+        cells ≡ spec_cells (scene_of (S.state scopes.old).frame made around.now) (map parameter_view params.now))) }
 {
     let mut cells: u64 = 0;
     for number in 0..params.len() {

@@ -1,4 +1,5 @@
-//! The code of the standard functions. What a function gives is the static rule's; where that is constant there is no code.
+//! The code of the standard functions. What a function gives is the static rule's;
+//! where that is constant there is no code.
 ghost use Rattle.std.specs.Prelude.{◌≡◌, ◌<◌, ◌^◌, List, option_map};
 ghost use Rattle.std.specs.Option.{IfSome};
 ghost use Rattle.m2_base.specs.Gives.{and_then, gives};
@@ -16,7 +17,11 @@ ghost use Rattle.expr_sem.specs.Codings.{Coding, IsCoded, IsFragment, coded_in};
 ghost use Rattle.expr_sem.specs.Fragments.{part};
 ghost use Rattle.expr_sem.specs.Kinds.{IsKindHere};
 ghost use Rattle.expr_sem.specs.Operators.{made as spec_made};
-ghost use Rattle.expr_sem.specs.StandardFunctions.{as_variable as spec_variable, function_of_one as spec_one, high_code as spec_high, high_of as spec_high_of, high_of_range as spec_range, high_of_variable as spec_high_variable, on_value as spec_on_value, size_code as spec_size, value_of_type as spec_value};
+ghost use Rattle.expr_sem.specs.StandardFunctions.{as_variable as spec_variable, function_of_one as spec_one};
+ghost use Rattle.expr_sem.specs.StandardFunctions.{high_code as spec_high, high_of as spec_high_of};
+ghost use Rattle.expr_sem.specs.StandardFunctions.{high_of_range as spec_range};
+ghost use Rattle.expr_sem.specs.StandardFunctions.{high_of_variable as spec_high_variable, on_value as spec_on_value};
+ghost use Rattle.expr_sem.specs.StandardFunctions.{size_code as spec_size, value_of_type as spec_value};
 ghost use Rattle.expr_sem.specs.ValueFunctions.{code_of};
 ghost use Rattle.expr_sem.specs.declared.fragments.Node.{Node};
 ghost use Rattle.expr_sem.specs.declared.value_functions.Rule.TheVariants as rules;
@@ -58,7 +63,9 @@ pub fn high_code<S: Scopes>(
     requires suits { SuitsSite (S.state scopes.old).frame site.now }
     requires x { IsCoded (S.state scopes.old).frame fragments.old.nodes.items x }
     requires kind { IsKindHere (S.state scopes.old).frame kind }
-    ensures { (notes : NotesOf) → Coding (S.state scopes.old) (S.state scopes.new) notes notes fragments.old.nodes.items fragments.new.nodes.items site.now result IsFragment part (λ c. gives (spec_high c.scene (coded_in fragments.old.nodes.items x) kind)) }
+    ensures { (notes : NotesOf) → Coding (S.state scopes.old) (S.state scopes.new) notes notes
+        fragments.old.nodes.items fragments.new.nodes.items site.now result IsFragment part
+        (λ c. gives (spec_high c.scene (coded_in fragments.old.nodes.items x) kind)) }
 {
     match kind {
         RowMeaning::Array(index, _, _) => {
@@ -80,7 +87,9 @@ fn high_computed<S: Scopes>(
     requires suits { SuitsSite (S.state scopes.old).frame site.now }
     requires x { IsCoded (S.state scopes.old).frame fragments.old.nodes.items x }
     requires kind { IsKindHere (S.state scopes.old).frame kind }
-    ensures { (notes : NotesOf) → Coding (S.state scopes.old) (S.state scopes.new) notes notes fragments.old.nodes.items fragments.new.nodes.items site.now result IsCoded coded_in (λ c. gives (coded (operands.Computed cardinal) (spec_high c.scene (coded_in fragments.old.nodes.items x) kind))) }
+    ensures { (notes : NotesOf) → Coding (S.state scopes.old) (S.state scopes.new) notes notes
+        fragments.old.nodes.items fragments.new.nodes.items site.now result IsCoded coded_in (λ c.
+        gives (coded (operands.Computed cardinal) (spec_high c.scene (coded_in fragments.old.nodes.items x) kind))) }
 {
     let code = analysed!(high_code(scopes, site, x, kind, fragments));
     Ok(Ask::Known(Coded::new(Operand::Computed(CARDINAL), code)))
@@ -93,7 +102,8 @@ impl<S: Scopes> Coder<'_, '_, S> {
         requires x { IsCoded (frame_of S.state self.old) (nodes_of self.old) x }
         requires kind { IsKindHere (frame_of S.state self.old) kind }
         ensures keeps { Keeps self.old self.new }
-        ensures codes { Codes S.state self.old self.new result IsCoded coded_in (λ c. spec_high_of c at (coded_in (nodes_of self.old) x) kind) }
+        ensures codes { Codes S.state self.old self.new result IsCoded coded_in
+            (λ c. spec_high_of c at (coded_in (nodes_of self.old) x) kind) }
     {
         match kind {
             RowMeaning::Array(index, _, _) => {
@@ -125,7 +135,8 @@ impl<S: Scopes> Coder<'_, '_, S> {
         requires suits { SuitsPlace S.state self.old }
         requires x { IsCoded (frame_of S.state self.old) (nodes_of self.old) x }
         ensures keeps { Keeps self.old self.new }
-        ensures codes { Codes S.state self.old self.new result IsCoded coded_in (λ c. and_then (spec_variable c at (coded_in (nodes_of self.old) x)) (spec_high_variable c at)) }
+        ensures codes { Codes S.state self.old self.new result IsCoded coded_in
+            (λ c. and_then (spec_variable c at (coded_in (nodes_of self.old) x)) (spec_high_variable c at)) }
     {
         let v = analysed!(as_variable(self.site, at, x, self.notes));
         if is_bad(v.operand) {
@@ -143,7 +154,9 @@ impl<S: Scopes> Coder<'_, '_, S> {
         requires suits { SuitsPlace S.state self.old }
         requires x { IsCoded (frame_of S.state self.old) (nodes_of self.old) x }
         ensures keeps { Keeps self.old self.new }
-        ensures codes { Codes S.state self.old self.new result IsCoded coded_in (λ c. and_then (of_type c functions.Size at x.operand) (λ r. gives (spec_made r (spec_size c (coded_in (nodes_of self.old) x))))) }
+        ensures codes { Codes S.state self.old self.new result IsCoded coded_in
+            (λ c. and_then (of_type c functions.Size at x.operand)
+            (λ r. gives (spec_made r (spec_size c (coded_in (nodes_of self.old) x))))) }
     {
         let argument = Argument {
             at,
@@ -172,7 +185,8 @@ fn of_type_coded<S: Scopes>(
 ) -> Result<Ask<Coded>, Memory>
     requires suits { SuitsSite (S.state scopes.old).frame site.now }
     requires x { IsOperand (S.state scopes.old).frame x.operand }
-    ensures { (nodes : List Node) → Coding (S.state scopes.old) (S.state scopes.new) notes.old notes.new nodes nodes site.now result IsCoded coded_in (λ c. and_then (of_type c function x.at x.operand) (λ r. gives (bare r))) }
+    ensures { (nodes : List Node) → Coding (S.state scopes.old) (S.state scopes.new) notes.old notes.new nodes nodes
+        site.now result IsCoded coded_in (λ c. and_then (of_type c function x.at x.operand) (λ r. gives (bare r))) }
 {
     let given = analysed!(of_type_noted(scopes, site, function, x, notes));
     Ok(Ask::Known(Coded::bare(given)))
@@ -184,7 +198,8 @@ impl<S: Scopes> Coder<'_, '_, S> {
         requires suits { SuitsPlace S.state self.old }
         requires x { IsCoded (frame_of S.state self.old) (nodes_of self.old) x }
         ensures keeps { Keeps self.old self.new }
-        ensures codes { Codes S.state self.old self.new result IsCoded coded_in (λ c. spec_on_value c at (coded_in (nodes_of self.old) x) (spec_of_value c function at) (code_of c (rules.Function function))) }
+        ensures codes { Codes S.state self.old self.new result IsCoded coded_in (λ c. spec_on_value c at
+            (coded_in (nodes_of self.old) x) (spec_of_value c function at) (code_of c (rules.Function function))) }
     {
         self.on_value(Rule::Function(function), at, x)
     }
@@ -199,7 +214,8 @@ impl<S: Scopes> Coder<'_, '_, S> {
         requires suits { SuitsPlace S.state self.old }
         requires x { IsCoded (frame_of S.state self.old) (nodes_of self.old) x }
         ensures keeps { Keeps self.old self.new }
-        ensures codes { Codes S.state self.old self.new result IsCoded coded_in (λ c. spec_one c f at (coded_in (nodes_of self.old) x)) }
+        ensures codes { Codes S.state self.old self.new result IsCoded coded_in
+            (λ c. spec_one c f at (coded_in (nodes_of self.old) x)) }
     {
         match f {
             Builtin::Abs => self.of_value(ValueFunction::Abs, at, x),
@@ -239,7 +255,8 @@ impl<S: Scopes> Coder<'_, '_, S> {
         requires of { IsCoded (frame_of S.state self.old) (nodes_of self.old) of.coded }
         requires x { IsCoded (frame_of S.state self.old) (nodes_of self.old) x.coded }
         ensures keeps { Keeps self.old self.new }
-        ensures codes { Codes S.state self.old self.new result IsCoded coded_in (λ c. spec_value c of.at (coded_in (nodes_of self.old) of.coded) x.at (coded_in (nodes_of self.old) x.coded)) }
+        ensures codes { Codes S.state self.old self.new result IsCoded coded_in (λ c.
+            spec_value c of.at (coded_in (nodes_of self.old) of.coded) x.at (coded_in (nodes_of self.old) x.coded)) }
     {
         let rule = Rule::Val(Argument {
             at: of.at,

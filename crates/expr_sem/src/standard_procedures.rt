@@ -57,7 +57,9 @@ pub fn is_function(f: Builtin) -> bool
 
 /// A standard procedure without arguments; of others than HALT nobody asks.
 pub fn of_no_argument(f: Builtin, fragments: &mut Fragments) -> Result<Ask<Coded>, Memory>
-    ensures { (state : State) (notes : NotesOf) (site : SiteOf) → SuitsSite state.frame site → Coding state state notes notes fragments.old.nodes.items fragments.new.nodes.items site result IsCoded coded_in (λ c. gives (spec_none f)) }
+    ensures { (state : State) (notes : NotesOf) (site : SiteOf) → SuitsSite state.frame site
+        → Coding state state notes notes fragments.old.nodes.items fragments.new.nodes.items site result IsCoded
+        coded_in (λ c. gives (spec_none f)) }
 {
     match f {
         Builtin::Halt => {
@@ -74,7 +76,8 @@ impl<S: Scopes> Coder<'_, '_, S> {
         requires suits { SuitsPlace S.state self.old }
         requires x { IsCoded (frame_of S.state self.old) (nodes_of self.old) x }
         ensures keeps { Keeps self.old self.new }
-        ensures codes { Codes S.state self.old self.new result IsCoded coded_in (λ c. and_then (ordinal_variable c at (coded_in (nodes_of self.old) x)) (λ v. gives (spec_stepped c f v one))) }
+        ensures codes { Codes S.state self.old self.new result IsCoded coded_in (λ c.
+            and_then (ordinal_variable c at (coded_in (nodes_of self.old) x)) (λ v. gives (spec_stepped c f v one))) }
     {
         let v = analysed!(variable_argument(
             self.scopes,
@@ -97,7 +100,8 @@ impl<S: Scopes> Coder<'_, '_, S> {
         requires suits { SuitsPlace S.state self.old }
         requires x { IsCoded (frame_of S.state self.old) (nodes_of self.old) x }
         ensures keeps { Keeps self.old self.new }
-        ensures codes { Codes S.state self.old self.new result IsCoded coded_in (λ c. spec_one c f at (coded_in (nodes_of self.old) x)) }
+        ensures codes { Codes S.state self.old self.new result IsCoded coded_in
+            (λ c. spec_one c f at (coded_in (nodes_of self.old) x)) }
     {
         match f {
             Builtin::Inc => self.stepped_by_one(Builtin::Inc, at, x),
@@ -138,7 +142,8 @@ impl<S: Scopes> Coder<'_, '_, S> {
         requires suits { SuitsPlace S.state self.old }
         requires x { IsCoded (frame_of S.state self.old) (nodes_of self.old) x }
         ensures keeps { Keeps self.old self.new }
-        ensures codes { Codes S.state self.old self.new result IsCoded coded_in (λ c. spec_first c f at (coded_in (nodes_of self.old) x)) }
+        ensures codes { Codes S.state self.old self.new result IsCoded coded_in
+            (λ c. spec_first c f at (coded_in (nodes_of self.old) x)) }
     {
         match f {
             Builtin::Inc => variable_argument(
@@ -179,7 +184,9 @@ impl<S: Scopes> Coder<'_, '_, S> {
         requires x { IsCoded (frame_of S.state self.old) (nodes_of self.old) x }
         requires n { IsCoded (frame_of S.state self.old) (nodes_of self.old) n.coded }
         ensures keeps { Keeps self.old self.new }
-        ensures codes { Codes S.state self.old self.new result IsCoded coded_in (λ c. and_then (spec_number c (coded_in (nodes_of self.old) x) n.at (coded_in (nodes_of self.old) n.coded)) (λ v. gives (spec_stepped c f (coded_in (nodes_of self.old) x) v))) }
+        ensures codes { Codes S.state self.old self.new result IsCoded coded_in
+            (λ c. and_then (spec_number c (coded_in (nodes_of self.old) x) n.at (coded_in (nodes_of self.old) n.coded))
+            (λ v. gives (spec_stepped c f (coded_in (nodes_of self.old) x) v))) }
     {
         let v = analysed!(step_number(self.scopes, self.site, x, n, self.notes));
         self.stepped(f, x, v)
@@ -191,7 +198,9 @@ impl<S: Scopes> Coder<'_, '_, S> {
         requires x { IsCoded (frame_of S.state self.old) (nodes_of self.old) x }
         requires e { IsCoded (frame_of S.state self.old) (nodes_of self.old) e.coded }
         ensures keeps { Keeps self.old self.new }
-        ensures codes { Codes S.state self.old self.new result IsCoded coded_in (λ c. and_then (spec_member c (coded_in (nodes_of self.old) x) e.at (coded_in (nodes_of self.old) e.coded)) (λ v. gives (spec_included c f (coded_in (nodes_of self.old) x) v))) }
+        ensures codes { Codes S.state self.old self.new result IsCoded coded_in
+            (λ c. and_then (spec_member c (coded_in (nodes_of self.old) x) e.at (coded_in (nodes_of self.old) e.coded))
+            (λ v. gives (spec_included c f (coded_in (nodes_of self.old) x) v))) }
     {
         let v = analysed!(set_member(self.scopes, self.site, x, e, self.notes));
         self.included(f, x, v)
@@ -208,7 +217,8 @@ impl<S: Scopes> Coder<'_, '_, S> {
         requires x { IsCoded (frame_of S.state self.old) (nodes_of self.old) x.coded }
         requires y { IsCoded (frame_of S.state self.old) (nodes_of self.old) y.coded }
         ensures keeps { Keeps self.old self.new }
-        ensures codes { Codes S.state self.old self.new result IsCoded coded_in (λ c. spec_two c f x.at (coded_in (nodes_of self.old) x.coded) y.at (coded_in (nodes_of self.old) y.coded)) }
+        ensures codes { Codes S.state self.old self.new result IsCoded coded_in (λ c.
+            spec_two c f x.at (coded_in (nodes_of self.old) x.coded) y.at (coded_in (nodes_of self.old) y.coded)) }
     {
         match f {
             Builtin::Inc => self.stepped_by_number(Builtin::Inc, x.coded, y),

@@ -28,7 +28,8 @@ fn step_type<S: Scopes>(scopes: &mut S, site: &Site, of: Place) -> Ask<Place>
     ensures reads { Reads (S.state scopes.old) (S.state scopes.new) }
     ensures waits { WhereWaiting result (λ head. Waits (S.state scopes.old) (S.state scopes.new) head) }
     ensures told { WhereTold (S.state scopes.old).frame (λ made.
-        WhereKnown result (λ want. want ≡ spec_step_type (context_of (S.state scopes.old).frame made site.now).scene of)) }
+        WhereKnown result
+        (λ want. want ≡ spec_step_type (context_of (S.state scopes.old).frame made site.now).scene of)) }
     ensures there { WhereKnown result (λ want. IsThere (S.state scopes.old).frame want) }
 {
     let base = known!(base_of(scopes, site.around, of));
@@ -47,7 +48,8 @@ fn has_base<S: Scopes>(scopes: &mut S, around: &Around, of: Place, want: Place) 
     ensures reads { Reads (S.state scopes.old) (S.state scopes.new) }
     ensures waits { WhereWaiting result (λ head. Waits (S.state scopes.old) (S.state scopes.new) head) }
     ensures told { WhereTold (S.state scopes.old).frame (λ made.
-        WhereKnown result (λ holds. holds ≡ is_same_place (spec_base (scene_of (S.state scopes.old).frame made around.now) of) want)) }
+        WhereKnown result
+        (λ holds. holds ≡ is_same_place (spec_base (scene_of (S.state scopes.old).frame made around.now) of) want)) }
 {
     let base = known!(base_of(scopes, around, of));
     Ask::Known(base == want)
@@ -61,7 +63,8 @@ fn is_step<S: Scopes>(scopes: &mut S, site: &Site, want: Place, operand: Operand
     ensures reads { Reads (S.state scopes.old) (S.state scopes.new) }
     ensures waits { WhereWaiting result (λ head. Waits (S.state scopes.old) (S.state scopes.new) head) }
     ensures told { WhereTold (S.state scopes.old).frame (λ made.
-        WhereKnown result (λ holds. holds ≡ spec_is_step (context_of (S.state scopes.old).frame made site.now).scene want operand)) }
+        WhereKnown result
+        (λ holds. holds ≡ spec_is_step (context_of (S.state scopes.old).frame made site.now).scene want operand)) }
 {
     match operand {
         Operand::Constant(of, _) => {
@@ -87,7 +90,9 @@ pub fn step_number<S: Scopes>(
     requires suits { SuitsSite (S.state scopes.old).frame site.now }
     requires x { IsOperand (S.state scopes.old).frame x.operand }
     requires n { (nodes : List Node) × IsCoded (S.state scopes.old).frame nodes n.coded }
-    ensures { (nodes : List Node) → IsCoded (S.state scopes.old).frame nodes n.coded → Coding (S.state scopes.old) (S.state scopes.new) notes.old notes.new nodes nodes site.now result IsCoded coded_in (λ c. spec_step_number c (coded_in nodes x) n.at (coded_in nodes n.coded)) }
+    ensures { (nodes : List Node) → IsCoded (S.state scopes.old).frame nodes n.coded
+        → Coding (S.state scopes.old) (S.state scopes.new) notes.old notes.new nodes nodes site.now result IsCoded
+        coded_in (λ c. spec_step_number c (coded_in nodes x) n.at (coded_in nodes n.coded)) }
 {
     let v = analysed!(as_value(site, n.at, n.coded, notes));
     if either_bad(x.operand, v.operand) {

@@ -34,7 +34,8 @@ fn is_either_broken<S: Scopes>(scopes: &mut S, around: &Around, x: Place, y: Pla
     ensures reads { Reads (S.state scopes.old) (S.state scopes.new) }
     ensures waits { WhereWaiting result (λ head. Waits (S.state scopes.old) (S.state scopes.new) head) }
     ensures told { WhereTold (S.state scopes.old).frame (λ made.
-        WhereKnown result (λ holds. let scene = scene_of (S.state scopes.old).frame made around.now in holds ≡ (spec_broken scene x || spec_broken scene y))) }
+        WhereKnown result (λ holds. let scene = scene_of (S.state scopes.old).frame made around.now in
+        holds ≡ (spec_broken scene x || spec_broken scene y))) }
 {
     if known!(is_broken(scopes, around, x)) {
         return Ask::Known(true);
@@ -50,7 +51,8 @@ fn has_broken_part<S: Scopes>(scopes: &mut S, around: &Around, of: Place) -> Ask
     ensures reads { Reads (S.state scopes.old) (S.state scopes.new) }
     ensures waits { WhereWaiting result (λ head. Waits (S.state scopes.old) (S.state scopes.new) head) }
     ensures told { WhereTold (S.state scopes.old).frame (λ made.
-        WhereKnown result (λ holds. let scene = scene_of (S.state scopes.old).frame made around.now in holds ≡ spec_broken_part scene (kind_of scene of))) }
+        WhereKnown result (λ holds. let scene = scene_of (S.state scopes.old).frame made around.now in
+        holds ≡ spec_broken_part scene (kind_of scene of))) }
 {
     let (_, meaning) = known!(stand(scopes, around, of));
     match meaning {
@@ -72,7 +74,8 @@ fn is_passed_over<S: Scopes>(
     ensures reads { Reads (S.state scopes.old) (S.state scopes.new) }
     ensures waits { WhereWaiting result (λ head. Waits (S.state scopes.old) (S.state scopes.new) head) }
     ensures told { WhereTold (S.state scopes.old).frame (λ made.
-        WhereKnown result (λ holds. holds ≡ spec_passed_over (scene_of (S.state scopes.old).frame made around.now) to operand)) }
+        WhereKnown result
+        (λ holds. holds ≡ spec_passed_over (scene_of (S.state scopes.old).frame made around.now) to operand)) }
 {
     if is_bad(operand) {
         return Ask::Known(true);
@@ -96,7 +99,8 @@ fn taken_into<S: Scopes>(scopes: &mut S, site: &Site, to: Place, operand: Operan
     ensures reads { Reads (S.state scopes.old) (S.state scopes.new) }
     ensures waits { WhereWaiting result (λ head. Waits (S.state scopes.old) (S.state scopes.new) head) }
     ensures told { WhereTold (S.state scopes.old).frame (λ made.
-        WhereKnown result (λ given. let c = context_of (S.state scopes.old).frame made site.now in given ≡ spec_taken_into c.source c.scene to operand)) }
+        WhereKnown result (λ given. let c = context_of (S.state scopes.old).frame made site.now in
+        given ≡ spec_taken_into c.source c.scene to operand)) }
     ensures there { WhereKnown result (λ given. IsOperand (S.state scopes.old).frame given) }
 {
     if !is_one_char(&operand) {
@@ -124,7 +128,8 @@ fn taken_or_refused<S: Scopes>(
     ensures reads { Reads (S.state scopes.old) (S.state scopes.new) }
     ensures waits { WhereWaiting result (λ head. Waits (S.state scopes.old) (S.state scopes.new) head) }
     ensures told { WhereTold (S.state scopes.old).frame (λ made.
-        WhereKnown result (λ given. given ≡ spec_taken_or_refused (context_of (S.state scopes.old).frame made site.now) to operand)) }
+        WhereKnown result
+        (λ given. given ≡ spec_taken_or_refused (context_of (S.state scopes.old).frame made site.now) to operand)) }
     ensures there { WhereKnown result (λ given. IsTaking (S.state scopes.old).frame given) }
 {
     if !known!(assignable(scopes, site.around, to, &operand)) {
@@ -143,7 +148,8 @@ pub fn taking_of<S: Scopes>(scopes: &mut S, site: &Site, to: Place, operand: Ope
     ensures reads { Reads (S.state scopes.old) (S.state scopes.new) }
     ensures waits { WhereWaiting result (λ head. Waits (S.state scopes.old) (S.state scopes.new) head) }
     ensures told { WhereTold (S.state scopes.old).frame (λ made.
-        WhereKnown result (λ given. given ≡ spec_taking (context_of (S.state scopes.old).frame made site.now) to operand)) }
+        WhereKnown result
+        (λ given. given ≡ spec_taking (context_of (S.state scopes.old).frame made site.now) to operand)) }
     ensures there { WhereKnown result (λ given. IsTaking (S.state scopes.old).frame given) }
 {
     if known!(is_passed_over(scopes, site.around, to, operand)) {

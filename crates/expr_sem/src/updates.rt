@@ -62,7 +62,9 @@ pub fn updated(
 ) -> Result<Fragment, Memory>
     requires variable { IsIn fragments.old.nodes.items variable }
     requires number { IsIn fragments.old.nodes.items number }
-    ensures { IsMade fragments.old.nodes.items fragments.new.nodes.items result (updated_by (part fragments.old.nodes.items variable) (part fragments.old.nodes.items number) (instrs_of change)) }
+    ensures { IsMade fragments.old.nodes.items fragments.new.nodes.items result
+        (updated_by (part fragments.old.nodes.items variable) (part fragments.old.nodes.items number)
+        (instrs_of change)) }
 {
     let change = change.code(fragments)?;
     let stored = instr_behind(change, Instr::Store, fragments)?;
@@ -111,7 +113,8 @@ fn step_change<S: Scopes>(scopes: &mut S, site: &Site, f: Builtin, of: Place) ->
     ensures reads { Reads (S.state scopes.old) (S.state scopes.new) }
     ensures waits { WhereWaiting result (λ head. Waits (S.state scopes.old) (S.state scopes.new) head) }
     ensures told { WhereTold (S.state scopes.old).frame (λ made.
-        WhereKnown result (λ change. instrs_of change ≡ spec_step_instrs (context_of (S.state scopes.old).frame made site.now).scene f of)) }
+        WhereKnown result (λ change.
+        instrs_of change ≡ spec_step_instrs (context_of (S.state scopes.old).frame made site.now).scene f of)) }
 {
     let side = known!(side_of(scopes, site, of));
     let ends = known!(range_of(scopes, site.around, of));
@@ -135,7 +138,8 @@ impl<S: Scopes> Coder<'_, '_, S> {
         requires x { IsCoded (frame_of S.state self.old) (nodes_of self.old) x }
         requires n { IsCoded (frame_of S.state self.old) (nodes_of self.old) n }
         ensures keeps { Keeps self.old self.new }
-        ensures codes { Codes S.state self.old self.new result IsCoded coded_in (λ c. gives (spec_stepped c f (coded_in (nodes_of self.old) x) (coded_in (nodes_of self.old) n))) }
+        ensures codes { Codes S.state self.old self.new result IsCoded coded_in
+            (λ c. gives (spec_stepped c f (coded_in (nodes_of self.old) x) (coded_in (nodes_of self.old) n))) }
     {
         if either_bad(x.operand, n.operand) {
             return Ok(Ask::Known(Coded::in_error()));

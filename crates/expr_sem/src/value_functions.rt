@@ -41,7 +41,8 @@ pub enum Rule {
 /// The type that the value becomes one of.
 fn target_of(rule: Rule) -> Option<Place>
     ensures told { result ≡ spec_target rule }
-    ensures there { (f : Frame) → IsThere f character → IsThere f cardinal → IsThere f broken → IsRuleHere f rule → IfSome result (λ of. IsThere f of) }
+    ensures there { (f : Frame) → IsThere f character → IsThere f cardinal → IsThere f broken → IsRuleHere f rule
+        → IfSome result (λ of. IsThere f of) }
 {
     match rule {
         Rule::Function(function) => match function {
@@ -67,7 +68,8 @@ fn rule_noted<S: Scopes>(
     requires suits { SuitsSite (S.state scopes.old).frame site.now }
     requires rule { IsRuleHere (S.state scopes.old).frame rule }
     requires x { IsOperand (S.state scopes.old).frame x.operand }
-    ensures { Analysed (S.state scopes.old) (S.state scopes.new) notes.old notes.new site.now result IsOperand (λ c. rule_of c rule x.at x.operand) }
+    ensures { Analysed (S.state scopes.old) (S.state scopes.new) notes.old notes.new site.now result IsOperand
+        (λ c. rule_of c rule x.at x.operand) }
 {
     match rule {
         Rule::Function(function) => of_value_noted(scopes, site, function, x, notes),
@@ -93,7 +95,8 @@ fn ending_of<S: Scopes>(scopes: &mut S, site: &Site, rule: Rule, of: Place) -> A
     ensures reads { Reads (S.state scopes.old) (S.state scopes.new) }
     ensures waits { WhereWaiting result (λ head. Waits (S.state scopes.old) (S.state scopes.new) head) }
     ensures told { WhereTold (S.state scopes.old).frame (λ made.
-        WhereKnown result (λ ending. instrs_of ending ≡ spec_ending (context_of (S.state scopes.old).frame made site.now).scene of rule)) }
+        WhereKnown result (λ ending.
+        instrs_of ending ≡ spec_ending (context_of (S.state scopes.old).frame made site.now).scene of rule)) }
 {
     match rule {
         Rule::Function(function) => match function {
@@ -120,7 +123,8 @@ fn with_ending(
     fragments: &mut Fragments,
 ) -> Result<Fragment, Memory>
     requires value { IsIn fragments.old.nodes.items value }
-    ensures { IsMade fragments.old.nodes.items fragments.new.nodes.items result (part fragments.old.nodes.items value ⨟ plain (instrs_of ending)) }
+    ensures { IsMade fragments.old.nodes.items fragments.new.nodes.items result
+        (part fragments.old.nodes.items value ⨟ plain (instrs_of ending)) }
 {
     match ending {
         Ending::Nothing => fragments.then(value, Fragment::Nothing),
@@ -142,7 +146,8 @@ impl<S: Scopes> Coder<'_, '_, S> {
         requires rule { IsRuleHere (frame_of S.state self.old) rule }
         requires v { IsCoded (frame_of S.state self.old) (nodes_of self.old) v }
         ensures keeps { Keeps self.old self.new }
-        ensures codes { Codes S.state self.old self.new result IsFragment part (λ c. gives (code_of c rule (coded_in (nodes_of self.old) v))) }
+        ensures codes { Codes S.state self.old self.new result IsFragment part
+            (λ c. gives (code_of c rule (coded_in (nodes_of self.old) v))) }
     {
         match target_of(rule) {
             Some(to) => fitted_code(self.scopes, self.site, to, v, self.fragments),
@@ -161,7 +166,8 @@ impl<S: Scopes> Coder<'_, '_, S> {
         requires rule { IsRuleHere (frame_of S.state self.old) rule }
         requires x { IsCoded (frame_of S.state self.old) (nodes_of self.old) x }
         ensures keeps { Keeps self.old self.new }
-        ensures codes { Codes S.state self.old self.new result IsCoded coded_in (λ c. spec_on_value c at (coded_in (nodes_of self.old) x) (rule_of c rule at) (code_of c rule)) }
+        ensures codes { Codes S.state self.old self.new result IsCoded coded_in
+            (λ c. spec_on_value c at (coded_in (nodes_of self.old) x) (rule_of c rule at) (code_of c rule)) }
     {
         let v = analysed!(as_value(self.site, at, x, self.notes));
         let argument = Argument {

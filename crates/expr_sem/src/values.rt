@@ -7,13 +7,15 @@ ghost use Rattle.m2_base.specs.Statics.Operands.{characters_of as spec_character
 ghost use Rattle.m2_base.specs.Statics.Ranges.{range};
 ghost use Rattle.m2_base.specs.declared.notes.Notes.{Notes as NotesOf};
 ghost use Rattle.m2_base.specs.declared.operands.Operand.TheVariants as OperandOf;
-ghost use Rattle.expr_sem.specs.Coded.{characters as spec_characters, is_structured as spec_structured, value_by, value_code as spec_value_code};
+ghost use Rattle.expr_sem.specs.Coded.{characters as spec_characters, is_structured as spec_structured, value_by};
+ghost use Rattle.expr_sem.specs.Coded.{value_code as spec_value_code};
 ghost use Rattle.expr_sem.specs.Coders.{Codes, Keeps, SuitsPlace, frame_of, nodes_of};
 ghost use Rattle.expr_sem.specs.Codings.{Coding, IsCoded, IsFragment, coded_in};
 ghost use Rattle.expr_sem.specs.Fragments.{IsIn, IsMade, part};
 ghost use Rattle.expr_sem.specs.Parts.{text as spec_text};
 ghost use Rattle.m2_base.specs.Diagnostics.{code_of};
-ghost use Rattle.expr_sem.specs.Values.{as_value as spec_as_value, assigned_to as spec_assigned_to, in_range as spec_in_range, in_range_by as spec_in_range_by};
+ghost use Rattle.expr_sem.specs.Values.{as_value as spec_as_value, assigned_to as spec_assigned_to};
+ghost use Rattle.expr_sem.specs.Values.{in_range as spec_in_range, in_range_by as spec_in_range_by};
 ghost use Rattle.expr_sem.specs.declared.fragments.Node.{Node};
 ghost use Rattle.type_rules.specs.Asks.{Reads, WhereKnown, WhereWaiting};
 ghost use Rattle.type_rules.specs.Scenes.{IsThere, Suits, WhereTold, scene_of};
@@ -50,7 +52,8 @@ fn characters_of(texts: &Texts, bytes: &[u8]) -> Result<Vec<u8>, Memory>
 /// empty string has one character, of code 0. Where it fails memory is wanted.
 pub fn characters(site: &Site, name: u32) -> Result<Vec<u8>, Memory>
     requires named { name < length site.now.texts.now.names }
-    ensures { IfOk result (λ bytes. (source : Source) → source.spellings ≡ site.now.texts.now.names → bytes.items ≡ spec_characters source name) }
+    ensures { IfOk result (λ bytes.
+        (source : Source) → source.spellings ≡ site.now.texts.now.names → bytes.items ≡ spec_characters source name) }
 {
     let texts = site.texts;
     characters_of(texts, texts.names.bytes(name))
@@ -74,7 +77,8 @@ pub fn is_structured<S: Scopes>(scopes: &mut S, around: &Around, of: Place) -> A
     ensures reads { Reads (S.state scopes.old) (S.state scopes.new) }
     ensures waits { WhereWaiting result (λ head. Waits (S.state scopes.old) (S.state scopes.new) head) }
     ensures told { WhereTold (S.state scopes.old).frame (λ made.
-        WhereKnown result (λ holds. holds ≡ spec_structured (scene_of (S.state scopes.old).frame made around.now) of)) }
+        WhereKnown result
+        (λ holds. holds ≡ spec_structured (scene_of (S.state scopes.old).frame made around.now) of)) }
 {
     let (_, meaning) = known!(stand(scopes, around, of));
     Ask::Known(matches!(
@@ -94,7 +98,9 @@ fn variable_value<S: Scopes>(
     requires suits { SuitsSite (S.state scopes.old).frame site.now }
     requires of { IsThere (S.state scopes.old).frame of }
     requires code { IsIn fragments.old.nodes.items code }
-    ensures { (notes : NotesOf) → Coding (S.state scopes.old) (S.state scopes.new) notes notes fragments.old.nodes.items fragments.new.nodes.items site.now result IsFragment part (λ c. gives (value_by c (part fragments.old.nodes.items code) (OperandOf.Variable of))) }
+    ensures { (notes : NotesOf) → Coding (S.state scopes.old) (S.state scopes.new) notes notes
+        fragments.old.nodes.items fragments.new.nodes.items site.now result IsFragment part
+        (λ c. gives (value_by c (part fragments.old.nodes.items code) (OperandOf.Variable of))) }
 {
     match is_structured(scopes, site.around, of) {
         Ask::Known(true) => Ok(Ask::Known(code)),
@@ -106,7 +112,8 @@ fn variable_value<S: Scopes>(
 /// The code of a string.
 pub fn string_value(site: &Site, name: u32, fragments: &mut Fragments) -> Result<Fragment, Memory>
     requires named { name < length site.now.texts.now.names }
-    ensures { (source : Source) → source.spellings ≡ site.now.texts.now.names → IsMade fragments.old.nodes.items fragments.new.nodes.items result (spec_text (spec_characters source name)) }
+    ensures { (source : Source) → source.spellings ≡ site.now.texts.now.names
+        → IsMade fragments.old.nodes.items fragments.new.nodes.items result (spec_text (spec_characters source name)) }
 {
     let bytes = characters(site, name)?;
     fragments.text(bytes)
@@ -123,7 +130,9 @@ pub fn value_code<S: Scopes>(
 ) -> Result<Ask<Fragment>, Memory>
     requires suits { SuitsSite (S.state scopes.old).frame site.now }
     requires x { IsCoded (S.state scopes.old).frame fragments.old.nodes.items x }
-    ensures { (notes : NotesOf) → Coding (S.state scopes.old) (S.state scopes.new) notes notes fragments.old.nodes.items fragments.new.nodes.items site.now result IsFragment part (λ c. gives (spec_value_code c (coded_in fragments.old.nodes.items x))) }
+    ensures { (notes : NotesOf) → Coding (S.state scopes.old) (S.state scopes.new) notes notes
+        fragments.old.nodes.items fragments.new.nodes.items site.now result IsFragment part
+        (λ c. gives (spec_value_code c (coded_in fragments.old.nodes.items x))) }
 {
     match x.operand {
         Operand::Constant(_, value) => answered(fragments.one(Instr::Push(value))),
@@ -138,7 +147,8 @@ pub fn value_code<S: Scopes>(
 
 /// What stands where a value is wanted: no type and no module alone, and no procedure that is no value.
 pub fn as_value(site: &Site, at: u32, x: Coded, notes: &mut Notes) -> Result<Ask<Coded>, Memory>
-    ensures { (state : State) (nodes : List Node) → IsCoded state.frame nodes x → Coding state state notes.old notes.new nodes nodes site.now result IsCoded coded_in (λ c. spec_as_value c at (coded_in nodes x)) }
+    ensures { (state : State) (nodes : List Node) → IsCoded state.frame nodes x → Coding state state notes.old
+        notes.new nodes nodes site.now result IsCoded coded_in (λ c. spec_as_value c at (coded_in nodes x)) }
 {
     match x.operand {
         Operand::NamedType(_) => refused(site, at, Diagnostic::NotAVariable, notes),
@@ -163,7 +173,9 @@ fn within(
     x: Coded,
     notes: &mut Notes,
 ) -> Result<Ask<Coded>, Memory>
-    ensures { (state : State) (nodes : List Node) → IsCoded state.frame nodes x → Coding state state notes.old notes.new nodes nodes site.now result IsCoded coded_in (λ c. spec_in_range_by c at (option_map (λ ends. range ends.0 ends.1) ends) (coded_in nodes x) x.operand) }
+    ensures { (state : State) (nodes : List Node) → IsCoded state.frame nodes x
+        → Coding state state notes.old notes.new nodes nodes site.now result IsCoded coded_in
+        (λ c. spec_in_range_by c at (option_map (λ ends. range ends.0 ends.1) ends) (coded_in nodes x) x.operand) }
 {
     match x.operand {
         Operand::Constant(_, value) => {
@@ -187,7 +199,9 @@ pub fn in_range<S: Scopes>(
 ) -> Result<Ask<Coded>, Memory>
     requires suits { SuitsSite (S.state scopes.old).frame site.now }
     requires to { IsThere (S.state scopes.old).frame to }
-    ensures { (nodes : List Node) → IsCoded (S.state scopes.old).frame nodes x.coded → Coding (S.state scopes.old) (S.state scopes.new) notes.old notes.new nodes nodes site.now result IsCoded coded_in (λ c. spec_in_range c x.at to (coded_in nodes x.coded)) }
+    ensures { (nodes : List Node) → IsCoded (S.state scopes.old).frame nodes x.coded
+        → Coding (S.state scopes.old) (S.state scopes.new) notes.old notes.new nodes nodes site.now result IsCoded
+        coded_in (λ c. spec_in_range c x.at to (coded_in nodes x.coded)) }
 {
     match range_of(scopes, site.around, to) {
         Ask::Known(ends) => within(site, x.at, ends, x.coded, notes),

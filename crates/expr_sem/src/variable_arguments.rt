@@ -27,7 +27,8 @@ pub enum Wanted {
 /// What must be a variable, as the left side of an assignment or an argument of INC. It is given as it is; what is in
 /// error stays so, and anything else is refused at its first token `at`. It never waits.
 pub fn as_variable(site: &Site, at: u32, x: Coded, notes: &mut Notes) -> Result<Ask<Coded>, Memory>
-    ensures { (state : State) (nodes : List Node) → IsCoded state.frame nodes x → Coding state state notes.old notes.new nodes nodes site.now result IsCoded coded_in (λ c. spec_variable c at (coded_in nodes x)) }
+    ensures { (state : State) (nodes : List Node) → IsCoded state.frame nodes x → Coding state state notes.old
+        notes.new nodes nodes site.now result IsCoded coded_in (λ c. spec_variable c at (coded_in nodes x)) }
 {
     match x.operand {
         Operand::Variable(_) => Ok(Ask::Known(x)),
@@ -45,7 +46,8 @@ fn is_wanted<S: Scopes>(scopes: &mut S, site: &Site, wanted: Wanted, of: Place) 
     ensures reads { Reads (S.state scopes.old) (S.state scopes.new) }
     ensures waits { WhereWaiting result (λ head. Waits (S.state scopes.old) (S.state scopes.new) head) }
     ensures told { WhereTold (S.state scopes.old).frame (λ made.
-        WhereKnown result (λ holds. holds ≡ spec_wanted (context_of (S.state scopes.old).frame made site.now).scene wanted of)) }
+        WhereKnown result
+        (λ holds. holds ≡ spec_wanted (context_of (S.state scopes.old).frame made site.now).scene wanted of)) }
 {
     match wanted {
         Wanted::Ordinal => Ask::Known(known!(range_of(scopes, site.around, of)).is_some()),
@@ -70,7 +72,9 @@ pub fn variable_argument<S: Scopes>(
 ) -> Result<Ask<Coded>, Memory>
     requires suits { SuitsSite (S.state scopes.old).frame site.now }
     requires x { (nodes : List Node) × IsCoded (S.state scopes.old).frame nodes x.coded }
-    ensures { (nodes : List Node) → IsCoded (S.state scopes.old).frame nodes x.coded → Coding (S.state scopes.old) (S.state scopes.new) notes.old notes.new nodes nodes site.now result IsCoded coded_in (λ c. spec_argument c x.at (spec_wanted c.scene wanted) (coded_in nodes x.coded)) }
+    ensures { (nodes : List Node) → IsCoded (S.state scopes.old).frame nodes x.coded
+        → Coding (S.state scopes.old) (S.state scopes.new) notes.old notes.new nodes nodes site.now result IsCoded
+        coded_in (λ c. spec_argument c x.at (spec_wanted c.scene wanted) (coded_in nodes x.coded)) }
 {
     let v = analysed!(as_variable(site, x.at, x.coded, notes));
     if is_bad(v.operand) {

@@ -8,7 +8,8 @@ ghost use Rattle.type_rules.specs.Scenes.{IsRowOf, block_of};
 ghost use Rattle.type_rules.specs.Sites.{SuitsSite};
 ghost use Rattle.const_eval.specs.Sites.{IsOperand};
 ghost use Rattle.expr_sem.specs.Codings.{Coding, IsCoded, coded_in};
-ghost use Rattle.expr_sem.specs.Variables.{cell_instr as spec_cell, entry_coded as spec_entry, links_out as spec_links, with_address as spec_with};
+ghost use Rattle.expr_sem.specs.Variables.{cell_instr as spec_cell, entry_coded as spec_entry};
+ghost use Rattle.expr_sem.specs.Variables.{links_out as spec_links, with_address as spec_with};
 
 use crate::addressed::{open_at, variable_at};
 use crate::chains::pair;
@@ -40,8 +41,8 @@ pub fn cell_instr(around: &Around, scope: u32, offset: u32) -> Instr
     Instr::Local(links_out(around, scope), offset)
 }
 
-/// An operand with the address of the variable that the row's meaning tells of. What is no variable has none, nor has a
-/// variable in error.
+/// An operand with the address of the variable that the row's meaning tells of. What is no variable has none, nor has
+/// a variable in error.
 fn with_address(
     site: &Site,
     scope: u32,
@@ -49,7 +50,9 @@ fn with_address(
     operand: Operand,
     fragments: &mut Fragments,
 ) -> Result<Ask<Coded>, Memory>
-    ensures { (state : State) (notes : Notes) → IsOperand state.frame operand → Coding state state notes notes fragments.old.nodes.items fragments.new.nodes.items site.now result IsCoded coded_in (λ c. gives (spec_with c.scene.block scope meaning operand)) }
+    ensures { (state : State) (notes : Notes) → IsOperand state.frame operand
+        → Coding state state notes notes fragments.old.nodes.items fragments.new.nodes.items site.now result IsCoded
+        coded_in (λ c. gives (spec_with c.scene.block scope meaning operand)) }
 {
     let Operand::Variable(of) = operand else {
         return Ok(Ask::Known(Coded::bare(operand)));
@@ -82,7 +85,8 @@ pub fn entry_coded<S: Scopes>(
 ) -> Result<Ask<Coded>, Memory>
     requires suits { SuitsSite (S.state scopes.old).frame site.now }
     requires entry { IfSome entry (λ e. IsRowOf (S.state scopes.old).frame e.0 e.1) }
-    ensures { (notes : Notes) → Coding (S.state scopes.old) (S.state scopes.new) notes notes fragments.old.nodes.items fragments.new.nodes.items site.now result IsCoded coded_in (λ c. gives (spec_entry c entry)) }
+    ensures { (notes : Notes) → Coding (S.state scopes.old) (S.state scopes.new) notes notes fragments.old.nodes.items
+        fragments.new.nodes.items site.now result IsCoded coded_in (λ c. gives (spec_entry c entry)) }
 {
     match entry {
         Some(entry) => {
