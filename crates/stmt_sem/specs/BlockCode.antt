@@ -1,6 +1,7 @@
--- The code of a block, the diagnostics of its statements and of its size, and the answers of its uses, over the finished
--- scopes.
-use Rattle.std.specs.Prelude.{ℕ, ◌+◌, ◌-◌, ◌==◌, ◌||◌, false, nat_lt, if◌then◌else◌, List, [], ◌∷◌, ◌++◌, map, slice_index, Option, Some, None}
+-- The code of a block, the diagnostics of its statements and of its size, and the answers of its uses, over the
+-- finished scopes.
+use Rattle.std.specs.Prelude.{ℕ, ◌+◌, ◌-◌, ◌==◌, ◌||◌, false, nat_lt, if◌then◌else◌, List, [], ◌∷◌, ◌++◌, map}
+use Rattle.std.specs.Prelude.{slice_index, Option, Some, None}
 use Rattle.m2_base.specs.Gives.{Gives}
 use Rattle.m2_base.specs.declared.rows.Place.{Place}
 use Rattle.m2_base.specs.declared.rows.Row.{Row}
@@ -29,9 +30,9 @@ use Rattle.stmt_sem.specs.Flows.{Flow, Run, straight, ◌⨾◌}
 use Rattle.stmt_sem.specs.Returns.{return_code}
 use Rattle.stmt_sem.specs.Statements.{Stand, flow_of}
 
--- The code of a procedure: the one that directly encloses it (0: none), the cells of its parameters, its result (0 or 1),
--- its cells, its greatest height, its data and its code. Procedure 0 is the module's body, whose cells are its temporary
--- cells.
+-- The code of a procedure: the one that directly encloses it (0: none), the cells of its parameters, its result (0 or
+-- 1), its cells, its greatest height, its data and its code. Procedure 0 is the module's body, whose cells are its
+-- temporary cells.
 pub record ProcedureCode : Type 0 where
   pub outer : ℕ
   pub params : ℕ
@@ -48,8 +49,9 @@ abbrev pub bound_result : Context → Option Heading → Option Place
 bound_result c None = None
 bound_result c (Some h) = (result_type c h.result).value
 
--- The result of a block's procedure, as its heading binds it. The heading is the block's first item, so that a name which
--- the block itself declares, as a parameter or in its declarations, stands for nothing there, and the result is in error.
+-- The result of a block's procedure, as its heading binds it. The heading is the block's first item, so that a name
+-- which the block itself declares, as a parameter or in its declarations, stands for nothing there,
+-- and the result is in error.
 abbrev pub result_by : Context → Stream → Option Place
 result_by c tree = bound_result (record c { layout = layout_of tree; item = Some 0 }) tree.heading
 
@@ -126,7 +128,8 @@ code_of_run b r =
 -- The code of a block. `before` are the finished scopes before it, `all` all of them.
 abbrev pub block_code : Source → (before all : List (List Row)) → BlockTree → ProcedureCode
 block_code source before all b =
-    code_of_run b (run_of b (declare_block source before b).value (body_of (complete_context source all b.block) b).value)
+    code_of_run b
+    (run_of b (declare_block source before b).value (body_of (complete_context source all b.block) b).value)
 
 -- ---- diagnostics and answers
 

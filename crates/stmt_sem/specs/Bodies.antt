@@ -22,7 +22,8 @@ use Rattle.expr_sem.specs.Fragments.{step_view}
 use Rattle.expr_sem.specs.Parts.{Made}
 use Rattle.expr_sem.specs.Pieces.{extend}
 use Rattle.expr_sem.specs.declared.pieces.Piece.{Piece}
-use Rattle.stmt_sem.specs.BlockCode.{body_of, ending, first_spot, in_statements, prologue, run_of, size_diags, stand_of}
+use Rattle.stmt_sem.specs.BlockCode.{body_of, ending, first_spot, in_statements, prologue, run_of, size_diags}
+use Rattle.stmt_sem.specs.BlockCode.{stand_of}
 use Rattle.stmt_sem.specs.FlowNodes.{flow_in}
 use Rattle.stmt_sem.specs.Flows.{Flow, Run, part_at, straight, ◌⨾◌}
 use Rattle.stmt_sem.specs.Statements.{flow_of}
@@ -53,11 +54,12 @@ abbrev pub left : Context → Stream → (k : ℕ) → Gives Flow
 left c tree k = flow_of (stand_of c (block_at c tree)) (rest_from k tree.body)
 
 -- The body has what the block copies first, and so many of its statements: with the code of those that are left, and
--- with the end, its code is the whole block's; and with what is noted of these, it has all that is noted of the block's
--- statements.
+-- with the end, its code is the whole block's; and with what is noted of these, it has all that is noted of the
+-- block's statements.
 pub record IsBuilt (c : Context) (tree : Stream) (e : BlockEffects) (b : Built) : Type 0 where
   pub made_is : extend b.made (part_at 0 ((left c tree b.count).value ⨾ straight (ending tree.heading)))
-      ≡ part_at 0 (straight (prologue e.prologue) ⨾ (left c tree 0).value ⨾ straight (ending tree.heading)) (first_spot tree.kind e)
+      ≡ part_at 0 (straight (prologue e.prologue) ⨾ (left c tree 0).value ⨾ straight (ending tree.heading))
+      (first_spot tree.kind e)
   pub diags : b.diags ++ (left c tree b.count).diags ≡ (left c tree 0).diags
   pub answers : b.answers ++ (left c tree b.count).answers ≡ (left c tree 0).answers
   pub cells : b.cells ≡ e.cell

@@ -1,5 +1,5 @@
--- The code of CASE. The selector's value goes to a temporary cell. Each arm tests its labels one after another, and is taken
--- where one holds; where none does and there is no ELSE, the machine traps.
+-- The code of CASE. The selector's value goes to a temporary cell. Each arm tests its labels one after another, and is
+-- taken where one holds; where none does and there is no ELSE, the machine traps.
 use Rattle.std.specs.Prelude.{ℕ, ℤ, List, [], ◌∷◌, if◌then◌else◌, Option, Some, None}
 use Rattle.m2_base.specs.Gives.{Gives, gives}
 use Rattle.m2_base.specs.declared.rows.Place.{Place}
@@ -9,7 +9,8 @@ use Rattle.m2_base.specs.Statics.Contexts.{Context, refuse}
 use Rattle.m2_base.specs.Statics.Diagnostics.{wrong_operands}
 use Rattle.m2_base.specs.Statics.Operands.{is_bad, operand_type}
 use Rattle.m2_base.specs.Statics.Operations.{is_ordinal}
-use Rattle.code_form.specs.declared.instr.Instr.TheVariants.{AndJump, Eq, Ge, Le, Load, Local, OrJump, Push, Store, Trap}
+use Rattle.code_form.specs.declared.instr.Instr.TheVariants.{AndJump, Eq, Ge, Le, Load, Local, OrJump, Push, Store}
+use Rattle.code_form.specs.declared.instr.Instr.TheVariants.{Trap}
 use Rattle.expr_sem.specs.Coded.{Coded, value_code}
 use Rattle.expr_sem.specs.Parts.{Part, none, plain, skip, ◌⨟◌}
 use Rattle.stmt_sem.specs.Tests.{false_code}

@@ -1,7 +1,8 @@
--- The code of FOR. Its variable is an ordinal variable of this block itself, no parameter by address and no field. The first
--- value is assigned to it; the last value goes to a temporary cell. The step is a number other than 0, 1 without BY. After
--- each turn it is added only where the last value lies further on.
-use Rattle.std.specs.Prelude.{ℕ, zero, ◌==◌, ◌&&◌, not, Bool, true, false, ℤ, pos, negsuc, List, [], ◌∷◌, if◌then◌else◌, Option, Some, None, is_some}
+-- The code of FOR. Its variable is an ordinal variable of this block itself, no parameter by address and no field. The
+-- first value is assigned to it; the last value goes to a temporary cell. The step is a number other than 0, 1 without
+-- BY. After each turn it is added only where the last value lies further on.
+use Rattle.std.specs.Prelude.{ℕ, zero, ◌==◌, ◌&&◌, not, Bool, true, false, ℤ, pos, negsuc, List, [], ◌∷◌}
+use Rattle.std.specs.Prelude.{if◌then◌else◌, Option, Some, None, is_some}
 use Rattle.m2_base.specs.Gives.{Gives, gives, and_then}
 use Rattle.m2_base.specs.Rows.{row_meaning}
 use Rattle.m2_base.specs.declared.rows.Mode.{Mode}
@@ -12,7 +13,8 @@ use Rattle.m2_base.specs.declared.rows.RowMeaning.TheVariants.{Var}
 use Rattle.m2_base.specs.declared.trees.Ident.{Ident}
 use Rattle.m2_base.specs.Statics.Compatible.{is_number_type}
 use Rattle.m2_base.specs.Statics.Contexts.{Context, Scene, refuse}
-use Rattle.m2_base.specs.Statics.Diagnostics.{not_a_control_variable, not_a_variable, not_assignable, out_of_range, wrong_operands}
+use Rattle.m2_base.specs.Statics.Diagnostics.{not_a_control_variable, not_a_variable, not_assignable, out_of_range}
+use Rattle.m2_base.specs.Statics.Diagnostics.{wrong_operands}
 use Rattle.m2_base.specs.Statics.Lookup.{Entry}
 use Rattle.m2_base.specs.Statics.Operands.{is_bad, operand_type}
 use Rattle.m2_base.specs.Statics.Types.{base_of, range_of}
@@ -68,7 +70,8 @@ control_variable c withs i =
 
 -- the first or the last value, which is assignable to the variable; `at` is its first token
 abbrev pub bound_value : Context → (variable : Coded) → (at : ℕ) → Coded → Gives Coded
-bound_value c x at v = if is_bad x.operand then gives in_error else assigned_to c (operand_type x.operand) at not_assignable v
+bound_value c x at v =
+    if is_bad x.operand then gives in_error else assigned_to c (operand_type x.operand) at not_assignable v
 
 -- 0
 abbrev pub is_zero : ℤ → Bool

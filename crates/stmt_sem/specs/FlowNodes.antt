@@ -1,7 +1,8 @@
--- Flows as nodes: the code of statements that each stands for. A node is made of earlier ones, and of fragments. What a node
--- stands for is known once it is told the temporary cell of the statement that it is a part of; the flow of a whole statement
--- is the same for every cell.
-use Rattle.std.specs.Prelude.{◌≡◌, ℕ, ◌<◌, List, [], ◌∷◌, ◌++◌, length, map, Option, Some, None, Result, Ok, Err, slice_get, slice_index_or}
+-- Flows as nodes: the code of statements that each stands for. A node is made of earlier ones, and of fragments. What
+-- a node stands for is known once it is told the temporary cell of the statement that it is a part of; the flow of a
+-- whole statement is the same for every cell.
+use Rattle.std.specs.Prelude.{◌≡◌, ℕ, ◌<◌, List, [], ◌∷◌, ◌++◌, length, map, Option, Some, None, Result, Ok, Err}
+use Rattle.std.specs.Prelude.{slice_get, slice_index_or}
 use Rattle.m2_base.specs.Lists.{Each, IsPrefixOf}
 use Rattle.m2_base.specs.declared.memory.Memory.{Memory}
 use Rattle.code_form.specs.declared.instr.Instr.TheVariants.{Load, Local, Store}
@@ -11,7 +12,8 @@ use Rattle.expr_sem.specs.Parts.{Part, Spot, plain, steps_size, ◌⨟◌}
 use Rattle.expr_sem.specs.declared.fragments.Node.{Node}
 use Rattle.stmt_sem.specs.Cases.{labels_code}
 use Rattle.stmt_sem.specs.Flows as flow
-use Rattle.stmt_sem.specs.Flows.{counted, exit, for_ever, in_with, nothing, straight, until_true, while_true, with_cell, ◌⨾◌}
+use Rattle.stmt_sem.specs.Flows.{counted, exit, for_ever, in_with, nothing, straight, until_true, while_true}
+use Rattle.stmt_sem.specs.Flows.{with_cell, ◌⨾◌}
 use Rattle.stmt_sem.specs.Statements.{arm_before, flow_or_nothing}
 use Rattle.stmt_sem.specs.declared.flows.Arm.{Arm}
 use Rattle.stmt_sem.specs.declared.flows.Code.{Code}
@@ -19,7 +21,8 @@ use Rattle.stmt_sem.specs.declared.flows.Code.TheVariants.{Fixed, Stored, Compar
 use Rattle.stmt_sem.specs.declared.flows.Flow.{Flow}
 use Rattle.stmt_sem.specs.declared.flows.Flow.TheVariants.{Nothing, Node as NodeOf}
 use Rattle.stmt_sem.specs.declared.flows.FlowForm.{FlowForm}
-use Rattle.stmt_sem.specs.declared.flows.FlowForm.TheVariants.{Straight, Block, Exit, Choice, WhileTrue, UntilTrue, ForEver, Counted, WithCell, InWith}
+use Rattle.stmt_sem.specs.declared.flows.FlowForm.TheVariants.{Straight, Block, Exit, Choice, WhileTrue, UntilTrue}
+use Rattle.stmt_sem.specs.declared.flows.FlowForm.TheVariants.{ForEver, Counted, WithCell, InWith}
 use Rattle.stmt_sem.specs.declared.flows.FlowNode.{FlowNode}
 use Rattle.stmt_sem.specs.declared.flows.Flows.{Flows}
 use Rattle.case_labels.specs.Seen.{test_seen}
@@ -48,7 +51,8 @@ block_among fs (x ∷ xs) t = flow_among fs x t ⨾ block_among fs xs t
 -- what the arms make before what follows them, if anything does
 abbrev pub arms_among : List Node → List CellFlow → List Arm → (cell : ℕ) → Option flow.Flow → Option flow.Flow
 arms_among ns fs [] t other = other
-arms_among ns fs (a ∷ others) t other = arm_before (code_by ns a.test t) (flow_among fs a.body t) (arms_among ns fs others t other)
+arms_among ns fs (a ∷ others) t other =
+    arm_before (code_by ns a.test t) (flow_among fs a.body t) (arms_among ns fs others t other)
 
 -- what stands where no arm is taken
 abbrev pub other_among : List CellFlow → Option Flow → (cell : ℕ) → Option flow.Flow
@@ -68,7 +72,8 @@ flow_by ns fs (Choice arms other) t = choice_among ns fs arms.items other t
 flow_by ns fs (WhileTrue c x) t = while_true (part ns c) (flow_among fs x t)
 flow_by ns fs (UntilTrue x c) t = until_true (flow_among fs x t) (part ns c)
 flow_by ns fs (ForEver x) t = for_ever (flow_among fs x t)
-flow_by ns fs (Counted first x again step) t = counted (code_by ns first t) (flow_among fs x t) (code_by ns again t) (part ns step)
+flow_by ns fs (Counted first x again step) t =
+    counted (code_by ns first t) (flow_among fs x t) (code_by ns again t) (part ns step)
 flow_by ns fs (WithCell x) t = with_cell (λ u. flow_among fs x u)
 flow_by ns fs (InWith x) t = in_with t (flow_among fs x t)
 

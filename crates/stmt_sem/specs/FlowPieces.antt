@@ -13,11 +13,13 @@ abbrev pub Over : Option Flow → ℕ → Type 0
 Over None n = n ≡ 0
 Over (Some f) n = (m : ℕ) × (n ≡ m + 5) × HasSize f m
 
--- with what follows the arm, whatever it is and where it has so many bytes, the piece is as if all were appended at once
+-- with what follows the arm, whatever it is and where it has so many bytes,
+-- the piece is as if all were appended at once
 abbrev pub AppendedArm : (before after : Piece) → List With → (out left : ℕ) → (test : Part) → (body : Flow) → Type 0
 AppendedArm before after ws out left test body =
     (other : Option Flow) → Over other left
-    → ends_as after ws (part_at out (flow_or_nothing other)) ≡ ends_as before ws (part_at out (flow_or_nothing (arm_before test body other)))
+    → ends_as after ws (part_at out (flow_or_nothing other))
+    ≡ ends_as before ws (part_at out (flow_or_nothing (arm_before test body other)))
 
 -- what comes after the body of a loop that counts, whose length is told
 abbrev pub again_part : (body again step : ℕ) → Part → Part → Part

@@ -18,13 +18,17 @@ use Rattle.stmt_sem.specs.declared.flows.Flows.{Flows}
 abbrev pub IsFlow : Frame → Flows → Flow → Type 0
 IsFlow f fs x = IsAmong fs x
 
--- Previous notes stay, and each answer noted was found by a search. The scope that the answer waits for is incomplete, and
--- before the own one. The fragments and flows made before stay. Where the texts are told, with rows of the site's item in
--- hand, a known answer and what is noted are the definition's, where each flow counts as the code that it stands for, whatever
--- the cell is. A known answer may stand at the place.
-pub record Flowing {T V : Type 0} (old new : State) (before after : Notes) (from to : Flows) (s : Site) (answer : Result (Ask T) Memory) (MayStand : Frame → Flows → T → Type 0) (as_given : Flows → T → (cell : ℕ) → V) (given : Context → Gives V) : Type 0 where
+-- Previous notes stay, and each answer noted was found by a search. The scope that the answer waits for is incomplete,
+-- and before the own one. The fragments and flows made before stay. Where the texts are told, with rows of the site's
+-- item in hand, a known answer and what is noted are the definition's, where each flow counts as the code that it
+-- stands for, whatever the cell is. A known answer may stand at the place.
+pub record Flowing {T V : Type 0} (old new : State) (before after : Notes) (from to : Flows)
+    (s : Site) (answer : Result (Ask T) Memory) (MayStand : Frame → Flows → T → Type 0)
+    (as_given : Flows → T → (cell : ℕ) → V) (given : Context → Gives V) : Type 0 where
   pub works : Works old new before after
   pub waits : IfWaits answer (λ h. Waits old new h)
   pub grows : Grows from to
-  pub told : WhereTold old.frame (λ made. AreOfSite s made → IfKnown answer (λ x. (cell : ℕ) → Adds before after (given (context_of old.frame made s)) (as_given to x cell)))
+  pub told : WhereTold old.frame (λ made.
+      AreOfSite s made → IfKnown answer
+      (λ x. (cell : ℕ) → Adds before after (given (context_of old.frame made s)) (as_given to x cell)))
   pub there : IfKnown answer (λ x. MayStand old.frame to x)

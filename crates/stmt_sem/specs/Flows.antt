@@ -7,8 +7,8 @@ use Rattle.code_form.specs.declared.instr.Instr.TheVariants.{Jump, JumpFalse}
 use Rattle.code_form.specs.Heights.{Step}
 use Rattle.expr_sem.specs.Parts.{Part, Spot, none, plain_step, steps_size}
 
--- What statements make: their code, once it is told how many bytes stand between its end and the place behind the innermost
--- LOOP; their bytes of the data; and where the next part begins.
+-- What statements make: their code, once it is told how many bytes stand between its end and the place behind the
+-- innermost LOOP; their bytes of the data; and where the next part begins.
 pub record Run : Type 0 where
   pub code : (out : ℕ) → List Step
   pub bytes : List ℕ

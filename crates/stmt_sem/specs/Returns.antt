@@ -1,5 +1,5 @@
--- The code of RETURN. In a function it has a value, which is assignable to the result and is fitted to it; elsewhere it has
--- none.
+-- The code of RETURN. In a function it has a value, which is assignable to the result and is fitted to it; elsewhere
+-- it has none.
 use Rattle.std.specs.Prelude.{ℕ, if◌then◌else◌, Option, Some, None}
 use Rattle.m2_base.specs.Gives.{Gives, gives, and_then}
 use Rattle.m2_base.specs.declared.rows.Place.{Place}

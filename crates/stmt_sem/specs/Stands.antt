@@ -23,7 +23,8 @@ at_first c r = record { context = c; result = r; withs = []; looped = false }
 abbrev pub names_of : Stand → List (List ℕ)
 names_of s = s.site.now.texts.now.names
 
--- the scopes suit the site, which is in no item; the types of the result and of the records of the open WITHs can be asked for
+-- the scopes suit the site, which is in no item; the types of the result and of the records of
+-- the open WITHs can be asked for
 pub record IsStand (f : Frame) (s : Stand) : Type 0 where
   pub suits : SuitsSite f s.site.now
   pub item : s.site.now.item ≡ None

@@ -7,7 +7,8 @@ use Rattle.m2_base.specs.declared.replies.Ask.{Ask}
 use Rattle.m2_base.specs.declared.replies.Ask.TheVariants.{Known}
 use Rattle.std.specs.declared.vec.Vec.{Vec}
 use Rattle.std.specs.declared.alloc.Global.{Global}
-use Rattle.stmt_sem.specs.FlowNodes.{CellFlow, IsAmong, IsArmOf, IsBeforeIfAny, arms_among, code_by, flow_among, flow_in, flows_in, other_among}
+use Rattle.stmt_sem.specs.FlowNodes.{CellFlow, IsAmong, IsArmOf, IsBeforeIfAny, arms_among, code_by, flow_among}
+use Rattle.stmt_sem.specs.FlowNodes.{flow_in, flows_in, other_among}
 use Rattle.stmt_sem.specs.Flows as flow
 use Rattle.stmt_sem.specs.Flows.{◌⨾◌}
 use Rattle.stmt_sem.specs.Statements as statements

@@ -2,7 +2,8 @@
 use Rattle.std.specs.Prelude.{ℕ, [], ◌∷◌, Option}
 use Rattle.m2_base.specs.Gives.{Gives, and_then, gives}
 use Rattle.m2_base.specs.declared.rows.Place.{Place}
-use Rattle.m2_base.specs.Trees.{CaseArms, CaseElse, Designator, Expr, Exprs, Statements, StmtForm, designator_at, expr_at, more_statements, no_statements}
+use Rattle.m2_base.specs.Trees.{CaseArms, CaseElse, Designator, Expr, Exprs, Statements, StmtForm, designator_at}
+use Rattle.m2_base.specs.Trees.{expr_at, more_statements, no_statements}
 use Rattle.code_form.specs.declared.instr.Instr.TheVariants.{Local, Store}
 use Rattle.expr_sem.specs.Coded.{Coded}
 use Rattle.expr_sem.specs.Expressions.{call_alone}
@@ -10,7 +11,8 @@ use Rattle.expr_sem.specs.Parts.{Part, plain, ◌⨟◌}
 use Rattle.stmt_sem.specs.Assignments.{code_unless_bad}
 use Rattle.stmt_sem.specs.Cases.{selector_type, selector_value}
 use Rattle.stmt_sem.specs.Flows.{Flow, straight, with_cell, ◌⨾◌}
-use Rattle.stmt_sem.specs.Statements.{Stand, cases_flow, else_flow, else_of, flow_of, form_flow, statement_flow, value_at, variable, within}
+use Rattle.stmt_sem.specs.Statements.{Stand, cases_flow, else_flow, else_of, flow_of, form_flow, statement_flow}
+use Rattle.stmt_sem.specs.Statements.{value_at, variable, within}
 use Rattle.stmt_sem.specs.Withs.{in_with_of, record_variable, with_code}
 
 -- what a form of statement makes of whose first token nothing depends
@@ -48,13 +50,16 @@ otherwise s other = and_then (flow_of s other) (λ o. gives (else_of other o))
 -- the arms of a CASE whose selector has this value and this type, and its ELSE
 abbrev pub case_of : Stand → (selector : Part) → (typ : Place) → CaseArms → CaseElse → Gives Flow
 case_of s x typ arms other =
-    and_then (cases_flow s typ [] arms) (λ before. and_then (else_flow s other) (λ o. gives (stored_before x (λ t. before t o))))
+    and_then (cases_flow s typ [] arms)
+    (λ before. and_then (else_flow s other) (λ o. gives (stored_before x (λ t. before t o))))
 
 -- the statements in a WITH of this variable
 abbrev pub with_body : Stand → Coded → Statements → Gives Flow
-with_body s x body = and_then (flow_of (within s x) body) (λ b. gives (with_cell (λ t. straight (with_code t x) ⨾ in_with_of x t b)))
+with_body s x body =
+    and_then (flow_of (within s x) body) (λ b. gives (with_cell (λ t. straight (with_code t x) ⨾ in_with_of x t b)))
 
 -- statements one after another, behind what is there
 abbrev pub statements_onto : Stand → (before : Flow → Flow) → Statements → Gives (Flow → Flow)
 statements_onto s before no_statements = gives before
-statements_onto s before (more_statements st ss) = and_then (statement_flow s st) (λ a. statements_onto s (λ rest. before (a ⨾ rest)) ss)
+statements_onto s before (more_statements st ss) =
+    and_then (statement_flow s st) (λ a. statements_onto s (λ rest. before (a ⨾ rest)) ss)

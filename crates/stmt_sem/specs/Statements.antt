@@ -8,15 +8,21 @@ use Rattle.m2_base.specs.Statics.Contexts.{Context, refuse}
 use Rattle.m2_base.specs.Statics.Diagnostics.{exit_outside_loop}
 use Rattle.m2_base.specs.Statics.Operands.{is_bad, operand_type}
 use Rattle.m2_base.specs.Statics.Ranges.{Range}
-use Rattle.m2_base.specs.Trees.{CaseArm, CaseArms, CaseElse, Designator, Expr, IfArm, IfArms, Statement, Statements, StmtForm, assign_form, call_statement, case_arm, case_else, case_form, designator_at, empty_form, exit_form, expr_at, for_form, if_arm, if_form, loop_form, more_case_arms, more_if_arms, more_statements, no_case_arms, no_case_else, no_if_arms, no_statements, repeat_form, return_form, statement, while_form, with_form}
+use Rattle.m2_base.specs.Trees.{CaseArm, CaseArms, CaseElse, Designator, Expr, IfArm, IfArms, Statement, Statements}
+use Rattle.m2_base.specs.Trees.{StmtForm, assign_form, call_statement, case_arm, case_else, case_form, designator_at}
+use Rattle.m2_base.specs.Trees.{empty_form, exit_form, expr_at, for_form, if_arm, if_form, loop_form, more_case_arms}
+use Rattle.m2_base.specs.Trees.{more_if_arms, more_statements, no_case_arms, no_case_else, no_if_arms, no_statements}
+use Rattle.m2_base.specs.Trees.{repeat_form, return_form, statement, while_form, with_form}
 use Rattle.expr_sem.specs.Coded.{Coded}
 use Rattle.expr_sem.specs.Expressions.{call_alone, designated, value}
 use Rattle.expr_sem.specs.Parts.{Part}
 use Rattle.expr_sem.specs.StandardFunctions.{as_variable}
 use Rattle.stmt_sem.specs.Assignments.{assignment, code_unless_bad}
 use Rattle.stmt_sem.specs.Cases.{labels_code, no_case, selector_code, selector_type}
-use Rattle.stmt_sem.specs.Counting.{bound_value, by_constant, control_variable, for_first, for_last, for_more, for_step, for_test, has_code, or_one}
-use Rattle.stmt_sem.specs.Flows.{Flow, choose, counted, exit, for_ever, nothing, straight, until_true, when, while_true, with_cell, ◌⨾◌}
+use Rattle.stmt_sem.specs.Counting.{bound_value, by_constant, control_variable, for_first, for_last, for_more}
+use Rattle.stmt_sem.specs.Counting.{for_step, for_test, has_code, or_one}
+use Rattle.stmt_sem.specs.Flows.{Flow, choose, counted, exit, for_ever, nothing, straight, until_true, when}
+use Rattle.stmt_sem.specs.Flows.{while_true, with_cell, ◌⨾◌}
 use Rattle.stmt_sem.specs.Returns.{return_alone, return_value}
 use Rattle.stmt_sem.specs.Tests.{test_code}
 use Rattle.stmt_sem.specs.Withs.{in_with_of, record_variable, with_code}

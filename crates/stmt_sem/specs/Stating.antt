@@ -1,5 +1,5 @@
--- What the analysis of one statement of a block's body leaves and gives: a piece with the statement's whole code, and notes of
--- its own.
+-- What the analysis of one statement of a block's body leaves and gives: a piece with the statement's whole code, and
+-- notes of its own.
 use Rattle.std.specs.Prelude.{◌≡◌, ℕ, zero, suc, List, Option, Some, None, Result, map, []}
 use Rattle.std.specs.Option.{IfSome}
 use Rattle.m2_base.specs.Asks.{IfKnown, IfWaits}
@@ -55,9 +55,11 @@ pub record IsStated (given : Gives Flow) (at : Spot) (x : Stated) : Type 0 where
   pub diags : x.notes.diags.items ≡ given.diags
   pub answers : x.notes.answers.items ≡ given.answers
 
--- Each answer noted was found by a search. The scope that the answer waits for is incomplete, and before the own one. Where the
--- texts are told, a known answer has what the definition gives of the statement of this number, whose code begins there.
-pub record Stating (old new : State) (s : Site) (tree : Stream) (k : ℕ) (at : Spot) (answer : Result (Ask Stated) Memory) : Type 0 where
+-- Each answer noted was found by a search. The scope that the answer waits for is incomplete, and before the own one.
+-- Where the texts are told, a known answer has what the definition gives of the statement of this number,
+-- whose code begins there.
+pub record Stating (old new : State) (s : Site) (tree : Stream) (k : ℕ) (at : Spot)
+    (answer : Result (Ask Stated) Memory) : Type 0 where
   pub looks : List Look
   pub keeps : Keeps old new looks
   pub shown : IfKnown answer (λ x. Each (IsAmong looks) x.notes.answers.items)

@@ -1,7 +1,11 @@
 -- How many tokens statements and blocks are made of, at the least: what stands between statements isn't counted.
 use Rattle.std.specs.Prelude.{ℕ, ◌+◌, Option, Some, None}
 use Rattle.m2_base.specs.Statics.ProcedureRows.{parameter_count}
-use Rattle.m2_base.specs.Trees.{CaseArm, CaseArms, CaseElse, Expr, Heading, IfArm, IfArms, Statement, Statements, StmtForm, Stream, assign_form, call_statement, case_arm, case_else, case_form, empty_form, exit_form, for_form, if_arm, if_form, loop_form, more_case_arms, more_if_arms, more_statements, no_case_arms, no_case_else, no_if_arms, no_statements, repeat_form, return_form, statement, while_form, with_form}
+use Rattle.m2_base.specs.Trees.{CaseArm, CaseArms, CaseElse, Expr, Heading, IfArm, IfArms, Statement, Statements}
+use Rattle.m2_base.specs.Trees.{StmtForm, Stream, assign_form, call_statement, case_arm, case_else, case_form}
+use Rattle.m2_base.specs.Trees.{empty_form, exit_form, for_form, if_arm, if_form, loop_form, more_case_arms}
+use Rattle.m2_base.specs.Trees.{more_if_arms, more_statements, no_case_arms, no_case_else, no_if_arms, no_statements}
+use Rattle.m2_base.specs.Trees.{repeat_form, return_form, statement, while_form, with_form}
 use Rattle.expr_sem.specs.Tokens.{designator_tokens, expr_tokens, exprs_tokens, labels_tokens}
 
 -- of an expression, if there is one
@@ -24,7 +28,8 @@ abbrev mutual
   stmt_form_tokens (case_form e arms other) = 2 + expr_tokens e + case_arms_tokens arms + else_tokens other
   stmt_form_tokens (while_form e body) = 3 + expr_tokens e + statements_tokens body
   stmt_form_tokens (repeat_form body e) = 2 + statements_tokens body + expr_tokens e
-  stmt_form_tokens (for_form i first last by body) = 6 + expr_tokens first + expr_tokens last + option_tokens by + statements_tokens body
+  stmt_form_tokens (for_form i first last by body) =
+      6 + expr_tokens first + expr_tokens last + option_tokens by + statements_tokens body
   stmt_form_tokens (with_form d body) = 3 + designator_tokens d + statements_tokens body
   stmt_form_tokens (return_form e) = 1 + option_tokens e
   stmt_form_tokens empty_form = 0

@@ -22,14 +22,20 @@ abbrev pub frame_of : {X : Type 0} → (state : X → State) → Walker X → Fr
 frame_of state w = (state w.scopes.now).frame
 
 -- A coding at a stand, from an analysis in progress to what it is afterwards.
-abbrev pub Codes : {X T V : Type 0} → (state : X → State) → (old new : Walker X) → (stand : Stand) → (answer : Result (Ask T) Memory) → (MayStand : Frame → List Node → T → Type 0) → (as_given : List Node → T → V) → (given : statements.Stand → Gives V) → Type 0
+abbrev pub Codes : {X T V : Type 0} → (state : X → State) → (old new : Walker X) → (stand : Stand)
+    → (answer : Result (Ask T) Memory) → (MayStand : Frame → List Node → T → Type 0) → (as_given : List Node → T → V)
+    → (given : statements.Stand → Gives V) → Type 0
 Codes state old new stand answer MayStand as_given given =
-    Coding (state old.scopes.now) (state new.scopes.now) old.notes.now new.notes.now (nodes_of old) (nodes_of new) stand.site.now answer MayStand as_given (λ c. given (stand_in c stand))
+    Coding (state old.scopes.now) (state new.scopes.now) old.notes.now new.notes.now (nodes_of old)
+    (nodes_of new) stand.site.now answer MayStand as_given (λ c. given (stand_in c stand))
 
 -- The same of flows.
-abbrev pub Walks : {X T V : Type 0} → (state : X → State) → (old new : Walker X) → (stand : Stand) → (answer : Result (Ask T) Memory) → (MayStand : Frame → Flows → T → Type 0) → (as_given : Flows → T → (cell : ℕ) → V) → (given : statements.Stand → Gives V) → Type 0
+abbrev pub Walks : {X T V : Type 0} → (state : X → State) → (old new : Walker X)
+    → (stand : Stand) → (answer : Result (Ask T) Memory) → (MayStand : Frame → Flows → T → Type 0)
+    → (as_given : Flows → T → (cell : ℕ) → V) → (given : statements.Stand → Gives V) → Type 0
 Walks state old new stand answer MayStand as_given given =
-    Flowing (state old.scopes.now) (state new.scopes.now) old.notes.now new.notes.now old.flows.now new.flows.now stand.site.now answer MayStand as_given (λ c. given (stand_in c stand))
+    Flowing (state old.scopes.now) (state new.scopes.now) old.notes.now new.notes.now old.flows.now new.flows.now
+    stand.site.now answer MayStand as_given (λ c. given (stand_in c stand))
 
 -- It works on what it worked on.
 pub record Keeps {X : Type 0} (old new : Walker X) : Type 0 where

@@ -1,4 +1,5 @@
--- The code of WITH: the address of its record goes to a temporary cell once, and the statements in it take it from there.
+-- The code of WITH: the address of its record goes to a temporary cell once,
+-- and the statements in it take it from there.
 use Rattle.std.specs.Prelude.{ℕ, ◌||◌, Bool, true, false, [], ◌∷◌, if◌then◌else◌}
 use Rattle.m2_base.specs.Gives.{Gives, gives}
 use Rattle.m2_base.specs.declared.rows.RowMeaning.{RowMeaning}

@@ -9,7 +9,9 @@ ghost use Rattle.expr_sem.specs.Fragments.{IsIn, IsMade, part};
 ghost use Rattle.expr_sem.specs.Parts.{plain, ◌⨟◌};
 ghost use Rattle.expr_sem.specs.declared.fragments.Node.{Node};
 ghost use Rattle.type_rules.specs.Sites.{SuitsSite};
-ghost use Rattle.stmt_sem.specs.Assignments.{assignment as spec_assignment, code_unless_bad as spec_unless_bad, store_code as spec_store, store_text as spec_store_text, store_value as spec_store_value};
+ghost use Rattle.stmt_sem.specs.Assignments.{assignment as spec_assignment, code_unless_bad as spec_unless_bad};
+ghost use Rattle.stmt_sem.specs.Assignments.{store_code as spec_store, store_text as spec_store_text};
+ghost use Rattle.stmt_sem.specs.Assignments.{store_value as spec_store_value};
 ghost use Rattle.stmt_sem.specs.Stands.{IsStand};
 ghost use Rattle.stmt_sem.specs.Walkers.{Codes, Keeps, KeepsNodes, frame_of, nodes_of};
 
@@ -33,7 +35,8 @@ fn stored(
 ) -> Result<Fragment, Memory>
     requires to { IsIn fragments.old.nodes.items to }
     requires value { IsIn fragments.old.nodes.items value }
-    ensures { IsMade fragments.old.nodes.items fragments.new.nodes.items result (part fragments.old.nodes.items to ⨟ part fragments.old.nodes.items value ⨟ plain (instr ∷ [])) }
+    ensures { IsMade fragments.old.nodes.items fragments.new.nodes.items result
+        (part fragments.old.nodes.items to ⨟ part fragments.old.nodes.items value ⨟ plain (instr ∷ [])) }
 {
     let rest = instr_behind(value, instr, fragments)?;
     fragments.then(to, rest)
@@ -61,7 +64,10 @@ fn store_text<S: Scopes>(
     requires suits { SuitsSite (S.state scopes.old).frame site.now }
     requires to { IsCoded (S.state scopes.old).frame fragments.old.nodes.items to }
     requires named { name < length site.now.texts.now.names }
-    ensures { (notes : NotesOf) → Coding (S.state scopes.old) (S.state scopes.new) notes notes fragments.old.nodes.items fragments.new.nodes.items site.now result IsFragment part (λ c. gives (spec_store_text c (spec_type to.operand) (part fragments.old.nodes.items to.code) (spec_characters c.source name))) }
+    ensures { (notes : NotesOf)
+        → Coding (S.state scopes.old) (S.state scopes.new) notes notes fragments.old.nodes.items
+        fragments.new.nodes.items site.now result IsFragment part (λ c. gives (spec_store_text c (spec_type to.operand)
+        (part fragments.old.nodes.items to.code) (spec_characters c.source name))) }
 {
     let size = asked!(cells_of(scopes, site.around, operand_type(&to.operand)));
     let bytes = characters(site, name)?;
@@ -70,8 +76,8 @@ fn store_text<S: Scopes>(
     answered(stored(to.code, string, Instr::Move(cells), fragments))
 }
 
-/// A value that is no string to a variable: of an array or a record all its cells, of anything else the value, fitted to
-/// the variable's type.
+/// A value that is no string to a variable: of an array or a record all its cells, of anything else the value, fitted
+/// to the variable's type.
 fn store_value<S: Scopes>(
     scopes: &mut S,
     site: &Site,
@@ -82,7 +88,10 @@ fn store_value<S: Scopes>(
     requires suits { SuitsSite (S.state scopes.old).frame site.now }
     requires to { IsCoded (S.state scopes.old).frame fragments.old.nodes.items to }
     requires x { IsCoded (S.state scopes.old).frame fragments.old.nodes.items x }
-    ensures { (notes : NotesOf) → Coding (S.state scopes.old) (S.state scopes.new) notes notes fragments.old.nodes.items fragments.new.nodes.items site.now result IsFragment part (λ c. gives (spec_store_value c (spec_type to.operand) (part fragments.old.nodes.items to.code) (coded_in fragments.old.nodes.items x))) }
+    ensures { (notes : NotesOf)
+        → Coding (S.state scopes.old) (S.state scopes.new) notes notes fragments.old.nodes.items
+        fragments.new.nodes.items site.now result IsFragment part (λ c. gives (spec_store_value c
+        (spec_type to.operand) (part fragments.old.nodes.items to.code) (coded_in fragments.old.nodes.items x))) }
 {
     let of = operand_type(&to.operand);
     let structured = asked!(is_structured(scopes, site.around, of));
@@ -106,7 +115,9 @@ pub fn store_code<S: Scopes>(
     requires suits { SuitsSite (S.state scopes.old).frame site.now }
     requires to { IsCoded (S.state scopes.old).frame fragments.old.nodes.items to }
     requires x { IsCoded (S.state scopes.old).frame fragments.old.nodes.items x }
-    ensures { (notes : NotesOf) → Coding (S.state scopes.old) (S.state scopes.new) notes notes fragments.old.nodes.items fragments.new.nodes.items site.now result IsFragment part (λ c. gives (spec_store c (coded_in fragments.old.nodes.items to) (coded_in fragments.old.nodes.items x))) }
+    ensures { (notes : NotesOf) → Coding (S.state scopes.old) (S.state scopes.new) notes notes
+        fragments.old.nodes.items fragments.new.nodes.items site.now result IsFragment part
+        (λ c. gives (spec_store c (coded_in fragments.old.nodes.items to) (coded_in fragments.old.nodes.items x))) }
 {
     match x.operand {
         Operand::InError => Ok(Ask::Known(Fragment::Nothing)),
@@ -128,7 +139,8 @@ impl<S: Scopes> Walker<'_, S> {
         requires x { IsCoded (frame_of S.state self.old) (nodes_of self.old) x.coded }
         ensures keeps { Keeps self.old self.new }
         ensures nodes { KeepsNodes self.old self.new }
-        ensures codes { Codes S.state self.old self.new stand.now result IsFragment part (λ s. spec_assignment s.context (coded_in (nodes_of self.old) to) x.at (coded_in (nodes_of self.old) x.coded)) }
+        ensures codes { Codes S.state self.old self.new stand.now result IsFragment part (λ s.
+            spec_assignment s.context (coded_in (nodes_of self.old) to) x.at (coded_in (nodes_of self.old) x.coded)) }
     {
         if is_bad(to.operand) {
             return Ok(Ask::Known(Fragment::Nothing));

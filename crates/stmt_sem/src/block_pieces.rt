@@ -4,7 +4,8 @@ ghost use Rattle.m2_base.specs.Views.{heading_view};
 ghost use Rattle.decl_sem.specs.Effects.{copy_view};
 ghost use Rattle.expr_sem.specs.Parts.{none};
 ghost use Rattle.expr_sem.specs.Pieces.{Appended};
-ghost use Rattle.stmt_sem.specs.BlockCode.{copy_code, ending as spec_ending, first_cell as spec_cell, prologue as spec_prologue};
+ghost use Rattle.stmt_sem.specs.BlockCode.{copy_code, ending as spec_ending, first_cell as spec_cell};
+ghost use Rattle.stmt_sem.specs.BlockCode.{prologue as spec_prologue};
 ghost use Rattle.stmt_sem.specs.Stating.{made_in, spot_at};
 
 use crate::procedure_codes::results_of;
@@ -71,7 +72,8 @@ pub fn begun(
     cells: u32,
     copies: &[ParamCopy],
 ) -> Result<Piece, Memory>
-    ensures { IfOk result (λ piece. made_in piece ≡ spec_prologue (map copy_view copies.now) (spot_at (spec_cell kind cells) 0)) }
+    ensures { IfOk result
+        (λ piece. made_in piece ≡ spec_prologue (map copy_view copies.now) (spot_at (spec_cell kind cells) 0)) }
 {
     let mut piece = empty_piece(alloc, first_cell(kind, cells), 0);
     append_copies(copies, &mut piece)?;

@@ -1,4 +1,5 @@
-//! The code of a block in the making: it is begun with what the body copies first, takes one statement after another, and ends.
+//! The code of a block in the making: it is begun with what the body copies first, takes one statement after another,
+//! and ends.
 ghost use Rattle.std.specs.Prelude.{◌≡◌, ◌<◌, ◌++◌, [], None, IfOk, OnErr, OnOk, length, map};
 ghost use Rattle.std.specs.Option.{IfSome};
 ghost use Rattle.m2_base.specs.Lists.{IsPrefixOf};
@@ -163,8 +164,8 @@ impl Model for Body {
 }
 
 impl Body {
-    /// The body of a block whose declarations left it so many cells, and which copies these parameters first. It has no
-    /// statement yet.
+    /// The body of a block whose declarations left it so many cells, and which copies these parameters first. It has
+    /// no statement yet.
     pub fn begin(
         alloc: Global,
         stream: &Stream,
@@ -192,8 +193,8 @@ impl Body {
         self.count
     }
 
-    /// Adds the next statement of the stream, whose procedure has this result. Where that isn't known yet, or memory is
-    /// wanted, it is as it was, and has no notes of the statement.
+    /// Adds the next statement of the stream, whose procedure has this result. Where that isn't known yet, or memory
+    /// is wanted, it is as it was, and has no notes of the statement.
     pub fn add<S: Scopes>(
         &mut self,
         scopes: &mut S,
@@ -224,8 +225,8 @@ impl Body {
         Ok(Ask::Known(()))
     }
 
-    /// The whole of a block, all of whose statements it has: its code with the end, and the notes of its statements and of
-    /// its size.
+    /// The whole of a block, all of whose statements it has: its code with the end, and the notes of its statements
+    /// and of its size.
     pub fn end(self, around: &Around, stream: &Stream) -> Result<Stated, Memory>
         requires { self.count ≡ length stream.now.body.items }
         ensures whole { IfOk result (λ whole. (c : Context) (e : BlockEffects) → c.scene.block.text ≡ around.now.text

@@ -39,7 +39,9 @@ fn type_or_refused(
     of: Place,
     notes: &mut Notes,
 ) -> Result<Ask<Place>, Memory>
-    ensures { (state : State) (nodes : List Node) → IsThere state.frame of → IsThere state.frame broken → Coding state state notes.old notes.new nodes nodes site.now result IsType itself (λ c. if holds then gives of else refuse c at wrong_operands broken) }
+    ensures { (state : State) (nodes : List Node) → IsThere state.frame of → IsThere state.frame broken
+        → Coding state state notes.old notes.new nodes nodes site.now result IsType itself
+        (λ c. if holds then gives of else refuse c at wrong_operands broken) }
 {
     if holds {
         Ok(Ask::Known(of))
@@ -58,7 +60,8 @@ pub fn selector_type<S: Scopes>(
 ) -> Result<Ask<Place>, Memory>
     requires suits { SuitsSite (S.state scopes.old).frame site.now }
     requires x { IsOperand (S.state scopes.old).frame x.operand }
-    ensures { (nodes : List Node) → Coding (S.state scopes.old) (S.state scopes.new) notes.old notes.new nodes nodes site.now result IsType itself (λ c. spec_type c at (coded_in nodes x)) }
+    ensures { (nodes : List Node) → Coding (S.state scopes.old) (S.state scopes.new) notes.old notes.new nodes nodes
+        site.now result IsType itself (λ c. spec_type c at (coded_in nodes x)) }
 {
     if is_bad(x.operand) {
         return Ok(Ask::Known(BROKEN));
@@ -76,7 +79,9 @@ pub fn selector_value<S: Scopes>(
 ) -> Result<Ask<Fragment>, Memory>
     requires suits { SuitsSite (S.state scopes.old).frame site.now }
     requires x { IsCoded (S.state scopes.old).frame fragments.old.nodes.items x }
-    ensures { (notes : NotesOf) → Coding (S.state scopes.old) (S.state scopes.new) notes notes fragments.old.nodes.items fragments.new.nodes.items site.now result IsFragment part (λ c. gives (spec_value c (coded_in fragments.old.nodes.items x))) }
+    ensures { (notes : NotesOf) → Coding (S.state scopes.old) (S.state scopes.new) notes notes
+        fragments.old.nodes.items fragments.new.nodes.items site.now result IsFragment part
+        (λ c. gives (spec_value c (coded_in fragments.old.nodes.items x))) }
 {
     if is_bad(x.operand) {
         return answered(false_code(fragments));

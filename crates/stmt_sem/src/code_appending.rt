@@ -37,7 +37,8 @@ pub fn backward(over: u64) -> Result<i32, Memory>
 /// Appends a test of the value in the cell against this one.
 fn push_bound(piece: &mut Piece, cell: u32, bound: i64, test: Instr) -> Result<(), Memory>
     ensures begins { Begins piece.old piece.new }
-    ensures ok { (ws : List OpenWith) → OnOk result (Appended piece.old piece.new ws (plain (Local 0 cell ∷ Load ∷ Push bound ∷ test ∷ []))) }
+    ensures ok { (ws : List OpenWith)
+        → OnOk result (Appended piece.old piece.new ws (plain (Local 0 cell ∷ Load ∷ Push bound ∷ test ∷ []))) }
 {
     push_instr(piece, Instr::Local(0, cell))?;
     push_instr(piece, Instr::Load)?;
@@ -48,7 +49,8 @@ fn push_bound(piece: &mut Piece, cell: u32, bound: i64, test: Instr) -> Result<(
 /// Appends the test of a label.
 fn push_label(piece: &mut Piece, label: &LabelTest, cell: u32) -> Result<(), Memory>
     ensures begins { Begins piece.old piece.new }
-    ensures ok { (ws : List OpenWith) → OnOk result (Appended piece.old piece.new ws (label_code cell (test_seen label.now))) }
+    ensures ok { (ws : List OpenWith)
+        → OnOk result (Appended piece.old piece.new ws (label_code cell (test_seen label.now))) }
 {
     match label.high {
         None => push_bound(piece, cell, label.low, Instr::Eq),
@@ -63,7 +65,8 @@ fn push_label(piece: &mut Piece, label: &LabelTest, cell: u32) -> Result<(), Mem
 /// Appends the tests of further labels, each of which is skipped where one before it holds.
 fn push_more_labels(piece: &mut Piece, labels: &[LabelTest], cell: u32) -> Result<(), Memory>
     ensures begins { Begins piece.old piece.new }
-    ensures ok { (ws : List OpenWith) → OnOk result (Appended piece.old piece.new ws (more_labels_code cell (map test_seen labels.now))) }
+    ensures ok { (ws : List OpenWith)
+        → OnOk result (Appended piece.old piece.new ws (more_labels_code cell (map test_seen labels.now))) }
 {
     for label in labels {
         push_instr(piece, Instr::OrJump(forward(label_size(label))?))?;
@@ -75,7 +78,8 @@ fn push_more_labels(piece: &mut Piece, labels: &[LabelTest], cell: u32) -> Resul
 /// Appends the tests of an arm's labels.
 fn push_labels(piece: &mut Piece, labels: &[LabelTest], cell: u32) -> Result<(), Memory>
     ensures begins { Begins piece.old piece.new }
-    ensures ok { (ws : List OpenWith) → OnOk result (Appended piece.old piece.new ws (labels_code cell (map test_seen labels.now))) }
+    ensures ok { (ws : List OpenWith)
+        → OnOk result (Appended piece.old piece.new ws (labels_code cell (map test_seen labels.now))) }
 {
     let Some((first, rest)) = labels.split_first() else {
         return push_instr(piece, Instr::Push(0));
@@ -95,7 +99,8 @@ pub fn append_code(
     requires sound { AreSound fragments.now.nodes.items }
     requires there { IsCodeOf fragments.now.nodes.items code.now }
     ensures begins { Begins piece.old piece.new }
-    ensures ok { OnOk result (Appended piece.old piece.new withs.now (code_by fragments.now.nodes.items code.now cell)) }
+    ensures ok { OnOk result
+        (Appended piece.old piece.new withs.now (code_by fragments.now.nodes.items code.now cell)) }
 {
     match code {
         Code::Fixed(fragment) => append_all(fragments, *fragment, withs, piece),

@@ -29,7 +29,8 @@ fn is_own_ordinal<S: Scopes>(scopes: &mut S, around: &Around, scope: u32, of: Pl
     ensures reads { Reads (S.state scopes.old) (S.state scopes.new) }
     ensures waits { WhereWaiting result (λ head. Waits (S.state scopes.old) (S.state scopes.new) head) }
     ensures told { WhereTold (S.state scopes.old).frame (λ made.
-        WhereKnown result (λ holds. holds ≡ ((scope == around.now.scope) && is_some (spec_range (scene_of (S.state scopes.old).frame made around.now) of)))) }
+        WhereKnown result (λ holds. holds ≡ ((scope == around.now.scope)
+        && is_some (spec_range (scene_of (S.state scopes.old).frame made around.now) of)))) }
 {
     if scope != around.scope {
         return Ask::Known(false);
@@ -45,7 +46,8 @@ fn can_control<S: Scopes>(scopes: &mut S, around: &Around, entry: (Place, Row)) 
     ensures reads { Reads (S.state scopes.old) (S.state scopes.new) }
     ensures waits { WhereWaiting result (λ head. Waits (S.state scopes.old) (S.state scopes.new) head) }
     ensures told { WhereTold (S.state scopes.old).frame (λ made.
-        WhereKnown result (λ holds. holds ≡ spec_can (scene_of (S.state scopes.old).frame made around.now) entry.0.scope (row_meaning entry.1))) }
+        WhereKnown result (λ holds.
+        holds ≡ spec_can (scene_of (S.state scopes.old).frame made around.now) entry.0.scope (row_meaning entry.1))) }
 {
     match read_row(&entry.1) {
         RowMeaning::Var(of, Mode::Plain, _) => is_own_ordinal(scopes, around, entry.0.scope, of),
@@ -63,7 +65,9 @@ fn check_control<S: Scopes>(
 ) -> Result<Ask<Coded>, Memory>
     requires suits { SuitsSite (S.state scopes.old).frame site.now }
     requires entry { IsRowOf (S.state scopes.old).frame entry.0 entry.1 }
-    ensures { (nodes : List Node) → IsCoded (S.state scopes.old).frame nodes x.coded → Coding (S.state scopes.old) (S.state scopes.new) notes.old notes.new nodes nodes site.now result IsCoded coded_in (λ c. controls_by c x.at entry (coded_in nodes x.coded) x.coded.operand) }
+    ensures { (nodes : List Node) → IsCoded (S.state scopes.old).frame nodes x.coded
+        → Coding (S.state scopes.old) (S.state scopes.new) notes.old notes.new nodes nodes site.now result IsCoded
+        coded_in (λ c. controls_by c x.at entry (coded_in nodes x.coded) x.coded.operand) }
 {
     match x.coded.operand {
         Operand::InError => Ok(Ask::Known(Coded::in_error())),
@@ -89,7 +93,8 @@ impl<S: Scopes> Walker<'_, S> {
         requires named { ident.name ≢ 0 }
         ensures keeps { Keeps self.old self.new }
         ensures nodes { KeepsNodes self.old self.new }
-        ensures codes { Codes S.state self.old self.new stand.now result IsCoded coded_in (λ s. spec_variable s.context s.withs ident) }
+        ensures codes { Codes S.state self.old self.new stand.now result IsCoded coded_in
+            (λ s. spec_variable s.context s.withs ident) }
     {
         let (site, at) = (stand.site, ident.at);
         let field = asked!(field_of_withs(self.scopes, site.around, stand.withs, ident.name));

@@ -13,7 +13,9 @@ ghost use Rattle.expr_sem.specs.Fragments.{IsIn, IsMade, part};
 ghost use Rattle.expr_sem.specs.Parts.{plain, ◌⨟◌};
 ghost use Rattle.expr_sem.specs.declared.fragments.Node.{Node};
 ghost use Rattle.type_rules.specs.Sites.{SuitsSite};
-ghost use Rattle.stmt_sem.specs.Counting.{bound_value, comparison as spec_comparison, for_first as spec_first, for_last as spec_last, for_more, for_step as spec_step, for_test, has_code, or_one};
+ghost use Rattle.stmt_sem.specs.Counting.{bound_value, comparison as spec_comparison, for_first as spec_first};
+ghost use Rattle.stmt_sem.specs.Counting.{for_last as spec_last, for_more, for_step as spec_step, for_test, has_code};
+ghost use Rattle.stmt_sem.specs.Counting.{or_one};
 ghost use Rattle.stmt_sem.specs.FlowNodes.{AreSound, IsAmong, IsFlowMade, code_by, flow_in};
 ghost use Rattle.stmt_sem.specs.Flowings.{Flowing, IsFlow};
 ghost use Rattle.stmt_sem.specs.Flows as flow;
@@ -61,7 +63,8 @@ impl<S: Scopes> Walker<'_, S> {
         requires e { IsReadExpr (names_of stand.now) (expr_view e.now) }
         ensures keeps { Keeps self.old self.new }
         ensures nodes { KeepsNodes self.old self.new }
-        ensures codes { Codes S.state self.old self.new stand.now result IsCoded coded_in (λ s. and_then (value_at s (expr_view e.now)) (bound_value s.context (coded_in (nodes_of self.old) x) (expr_at (expr_view e.now)))) }
+        ensures codes { Codes S.state self.old self.new stand.now result IsCoded coded_in (λ s. and_then (value_at s
+            (expr_view e.now)) (bound_value s.context (coded_in (nodes_of self.old) x) (expr_at (expr_view e.now)))) }
     {
         let coded = analysed!(self.value_of(stand, e));
         if is_bad(x.operand) {
@@ -89,7 +92,9 @@ pub fn check_step<S: Scopes>(
 ) -> Result<Ask<i64>, Memory>
     requires suits { SuitsSite (S.state scopes.old).frame site.now }
     requires by { IsReadExprOption site.now.texts.now.names (option_map expr_view by.now) }
-    ensures { (stand : StandOf) (nodes : List Node) → Coding (S.state scopes.old) (S.state scopes.new) notes.old notes.new nodes nodes site.now result IsStep itself (λ c. and_then (by_of (stand_in c stand) (option_map expr_view by.now)) (λ step. gives (or_one step))) }
+    ensures { (stand : StandOf) (nodes : List Node)
+        → Coding (S.state scopes.old) (S.state scopes.new) notes.old notes.new nodes nodes site.now result IsStep
+        itself (λ c. and_then (by_of (stand_in c stand) (option_map expr_view by.now)) (λ step. gives (or_one step))) }
 {
     let Some(e) = by else {
         return Ok(Ask::Known(1));
@@ -128,7 +133,9 @@ fn emit_first<S: Scopes>(
     requires suits { SuitsSite (S.state scopes.old).frame site.now }
     requires x { IsCoded (S.state scopes.old).frame fragments.old.nodes.items x }
     requires first { IsCoded (S.state scopes.old).frame fragments.old.nodes.items first }
-    ensures { (notes : NotesOf) → Coding (S.state scopes.old) (S.state scopes.new) notes notes fragments.old.nodes.items fragments.new.nodes.items site.now result IsFragment part (λ c. gives (spec_first c (coded_in fragments.old.nodes.items x) (coded_in fragments.old.nodes.items first))) }
+    ensures { (notes : NotesOf) → Coding (S.state scopes.old) (S.state scopes.new) notes notes
+        fragments.old.nodes.items fragments.new.nodes.items site.now result IsFragment part
+        (λ c. gives (spec_first c (coded_in fragments.old.nodes.items x) (coded_in fragments.old.nodes.items first))) }
 {
     if is_bad(x.operand) || is_bad(first.operand) {
         return Ok(Ask::Known(Fragment::Nothing));
@@ -147,7 +154,9 @@ fn emit_last<S: Scopes>(
     requires suits { SuitsSite (S.state scopes.old).frame site.now }
     requires x { IsCoded (S.state scopes.old).frame fragments.old.nodes.items x }
     requires last { IsCoded (S.state scopes.old).frame fragments.old.nodes.items last }
-    ensures { (notes : NotesOf) → Coding (S.state scopes.old) (S.state scopes.new) notes notes fragments.old.nodes.items fragments.new.nodes.items site.now result IsCellCode code_by (λ c. gives (λ t. spec_last c t (coded_in fragments.old.nodes.items x) (coded_in fragments.old.nodes.items last))) }
+    ensures { (notes : NotesOf) → Coding (S.state scopes.old) (S.state scopes.new) notes notes
+        fragments.old.nodes.items fragments.new.nodes.items site.now result IsCellCode code_by (λ c.
+        gives (λ t. spec_last c t (coded_in fragments.old.nodes.items x) (coded_in fragments.old.nodes.items last))) }
 {
     if is_bad(x.operand) || is_bad(last.operand) {
         return Ok(Ask::Known(Code::Fixed(Fragment::Nothing)));
@@ -165,7 +174,8 @@ fn add_step(
     fragments: &mut Fragments,
 ) -> Result<Fragment, Memory>
     requires { IsIn fragments.old.nodes.items variable }
-    ensures { IsMade fragments.old.nodes.items fragments.new.nodes.items result (part fragments.old.nodes.items variable ⨟ plain (instrs.Dup ∷ instrs.Load ∷ instrs.Push by ∷ instrs.Add side ∷ instrs.Store ∷ [])) }
+    ensures { IsMade fragments.old.nodes.items fragments.new.nodes.items result (part fragments.old.nodes.items
+        variable ⨟ plain (instrs.Dup ∷ instrs.Load ∷ instrs.Push by ∷ instrs.Add side ∷ instrs.Store ∷ [])) }
 {
     let loaded = pair(Instr::Dup, Instr::Load, fragments)?;
     let sum = pair(Instr::Push(by), Instr::Add(side), fragments)?;
@@ -184,7 +194,9 @@ fn emit_step<S: Scopes>(
 ) -> Result<Ask<Fragment>, Memory>
     requires suits { SuitsSite (S.state scopes.old).frame site.now }
     requires x { IsCoded (S.state scopes.old).frame fragments.old.nodes.items x }
-    ensures { (notes : NotesOf) → Coding (S.state scopes.old) (S.state scopes.new) notes notes fragments.old.nodes.items fragments.new.nodes.items site.now result IsFragment part (λ c. gives (spec_step c.scene (coded_in fragments.old.nodes.items x) by)) }
+    ensures { (notes : NotesOf) → Coding (S.state scopes.old) (S.state scopes.new) notes notes
+        fragments.old.nodes.items fragments.new.nodes.items site.now result IsFragment part
+        (λ c. gives (spec_step c.scene (coded_in fragments.old.nodes.items x) by)) }
 {
     let side = asked!(side_of(scopes, site, operand_type(&x.operand)));
     answered(add_step(x.code, by, side, fragments))
@@ -201,7 +213,10 @@ fn emit_turns(
     requires x { IsIn flows.old.fragments.nodes.items x.code }
     requires step { IsIn flows.old.fragments.nodes.items step }
     requires body { IsAmong flows.old body }
-    ensures { IsFlowMade flows.old flows.new result (λ t. if has_code (coded_in flows.old.fragments.nodes.items x) then spec_counted (for_test t (coded_in flows.old.fragments.nodes.items x) by) (flow_in flows.old body t) (for_more t (coded_in flows.old.fragments.nodes.items x) by) (part flows.old.fragments.nodes.items step) else flow_in flows.old body t) }
+    ensures { IsFlowMade flows.old flows.new result (λ t. if has_code (coded_in flows.old.fragments.nodes.items x) then
+        spec_counted (for_test t (coded_in flows.old.fragments.nodes.items x) by) (flow_in flows.old body t)
+        (for_more t (coded_in flows.old.fragments.nodes.items x) by) (part flows.old.fragments.nodes.items step)
+        else flow_in flows.old body t) }
 {
     if is_bad(x.operand) {
         return Ok(body);
@@ -225,8 +240,11 @@ pub fn emit_for<S: Scopes>(
     requires first { IsCoded (S.state scopes.old).frame flows.old.fragments.nodes.items count.now.first }
     requires last { IsCoded (S.state scopes.old).frame flows.old.fragments.nodes.items count.now.last }
     requires body { IsAmong flows.old body }
-    ensures { (notes : NotesOf) (within : flow.Flow) → StandsFor (S.state scopes.old).frame site.now flows.old body within
-        → Flowing (S.state scopes.old) (S.state scopes.new) notes notes flows.old flows.new site.now result IsFlow flow_in (λ c. gives (for_flow c (coded_in flows.old.fragments.nodes.items count.now.variable) (coded_in flows.old.fragments.nodes.items count.now.first) (coded_in flows.old.fragments.nodes.items count.now.last) count.now.by within)) }
+    ensures { (notes : NotesOf) (within : flow.Flow) → StandsFor (S.state scopes.old).frame site.now flows.old
+        body within → Flowing (S.state scopes.old) (S.state scopes.new) notes notes flows.old flows.new site.now
+        result IsFlow flow_in (λ c. gives (for_flow c (coded_in flows.old.fragments.nodes.items count.now.variable)
+        (coded_in flows.old.fragments.nodes.items count.now.first)
+        (coded_in flows.old.fragments.nodes.items count.now.last) count.now.by within)) }
 {
     let x = count.variable;
     let fragments = &mut flows.fragments;

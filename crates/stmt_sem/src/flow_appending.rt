@@ -1,15 +1,18 @@
-//! Flows, appended to a piece of a block's code. Each knows the lengths of those that it is made of, so that every jump is
-//! known when it is appended.
+//! Flows, appended to a piece of a block's code. Each knows the lengths of those that it is made of, so that every
+//! jump is known when it is appended.
 ghost use Rattle.std.specs.Prelude.{ℕ, ◌+◌, ◌-◌, ◌∷◌, [], OnErr, OnOk, length, pos};
 ghost use Rattle.m2_base.specs.Lists.{Each};
 ghost use Rattle.code_form.specs.declared.instr.Instr.TheVariants.{Jump, JumpFalse};
 ghost use Rattle.expr_sem.specs.Fragments.{IsIn, part};
 ghost use Rattle.expr_sem.specs.Parts.{plain, ◌⨟◌};
 ghost use Rattle.expr_sem.specs.Pieces.{Appended, Begins, IsAsBefore};
-ghost use Rattle.stmt_sem.specs.FlowNodes.{AreSound, IsAmong, IsArmOf, IsBefore, IsBeforeIfAny, IsCodeOf, IsMadeOf, block_among, choice_among, code_by, flow_in, flows_in, form_flow};
+ghost use Rattle.stmt_sem.specs.FlowNodes.{AreSound, IsAmong, IsArmOf, IsBefore, IsBeforeIfAny, IsCodeOf, IsMadeOf};
+ghost use Rattle.stmt_sem.specs.FlowNodes.{block_among, choice_among, code_by, flow_in, flows_in, form_flow};
 ghost use Rattle.stmt_sem.specs.FlowPieces.{AppendedArm, again_part};
 ghost use Rattle.stmt_sem.specs.FlowSizes.{code_bytes, flow_bytes, fragment_bytes};
-ghost use Rattle.stmt_sem.specs.Flows.{counted as spec_counted, for_ever as spec_for_ever, in_with as spec_in_with, part_at, until_true as spec_until_true, while_true as spec_while_true, with_cell as spec_with_cell};
+ghost use Rattle.stmt_sem.specs.Flows.{counted as spec_counted, for_ever as spec_for_ever, in_with as spec_in_with};
+ghost use Rattle.stmt_sem.specs.Flows.{part_at, until_true as spec_until_true, while_true as spec_while_true};
+ghost use Rattle.stmt_sem.specs.Flows.{with_cell as spec_with_cell};
 
 use crate::code_appending::{append_code, backward, forward};
 use crate::flow_sizes::{JUMP, sum};
@@ -43,7 +46,8 @@ impl Appender<'_> {
         requires there { IsAmong self.now.flows.now body }
         ensures begins { Begins piece.old piece.new }
         ensures ok { OnOk result (Appended piece.old piece.new self.now.withs.now
-            (plain (JumpFalse (pos (flow_bytes self.now.flows.now body)) ∷ []) ⨟ part_at out (flow_in self.now.flows.now body self.now.cell))) }
+            (plain (JumpFalse (pos (flow_bytes self.now.flows.now body)) ∷ [])
+            ⨟ part_at out (flow_in self.now.flows.now body self.now.cell))) }
     {
         push_instr(piece, Instr::JumpFalse(forward(self.flows.size(body))?))?;
         self.append_inner(body, out, piece)
@@ -57,7 +61,8 @@ impl Appender<'_> {
         requires there { IsAmong self.now.flows.now body }
         ensures begins { Begins piece.old piece.new }
         ensures ok { OnOk result (Appended piece.old piece.new self.now.withs.now
-            (plain (JumpFalse (pos (flow_bytes self.now.flows.now body + 5)) ∷ []) ⨟ (part_at (out + left) (flow_in self.now.flows.now body self.now.cell) ⨟ plain (Jump (pos (left - 5)) ∷ [])))) }
+            (plain (JumpFalse (pos (flow_bytes self.now.flows.now body + 5)) ∷ []) ⨟ (part_at (out
+            + left) (flow_in self.now.flows.now body self.now.cell) ⨟ plain (Jump (pos (left - 5)) ∷ [])))) }
     {
         let size = sum(self.flows.size(body), JUMP)?;
         push_instr(piece, Instr::JumpFalse(forward(size)?))?;
@@ -65,13 +70,17 @@ impl Appender<'_> {
         push_instr(piece, Instr::Jump(forward(left.saturating_sub(JUMP))?))
     }
 
-    /// Appends an arm, or a beginning of it. What follows it has so many bytes with one jump more, or there is nothing.
+    /// Appends an arm, or a beginning of it. What follows it has so many bytes with one jump more,
+    /// or there is nothing.
     #[cycle(flows)]
     fn append_arm(&self, arm: &Arm, left: u64, out: u64, piece: &mut Piece) -> Result<(), Memory>
         requires sound { AreSound self.now.flows.now }
-        requires there { IsArmOf self.now.flows.now.fragments.nodes.items (length self.now.flows.now.nodes.items) arm.now }
+        requires there { IsArmOf self.now.flows.now.fragments.nodes.items
+            (length self.now.flows.now.nodes.items) arm.now }
         ensures begins { Begins piece.old piece.new }
-        ensures ok { OnOk result (AppendedArm piece.old piece.new self.now.withs.now out left (code_by self.now.flows.now.fragments.nodes.items arm.now.test self.now.cell) (flow_in self.now.flows.now arm.now.body self.now.cell)) }
+        ensures ok { OnOk result (AppendedArm piece.old piece.new self.now.withs.now out left
+            (code_by self.now.flows.now.fragments.nodes.items arm.now.test self.now.cell)
+            (flow_in self.now.flows.now arm.now.body self.now.cell)) }
     {
         append_code(
             &self.flows.fragments,
@@ -97,10 +106,12 @@ impl Appender<'_> {
         piece: &mut Piece,
     ) -> Result<(), Memory>
         requires sound { AreSound self.now.flows.now }
-        requires arms { Each (IsArmOf self.now.flows.now.fragments.nodes.items (length self.now.flows.now.nodes.items)) arms.now }
+        requires arms { Each (IsArmOf self.now.flows.now.fragments.nodes.items (length self.now.flows.now.nodes.items))
+            arms.now }
         requires other { IsBeforeIfAny (length self.now.flows.now.nodes.items) other }
         ensures begins { Begins piece.old piece.new }
-        ensures ok { OnOk result (Appended piece.old piece.new self.now.withs.now (part_at out (choice_among self.now.flows.now.fragments.nodes.items (flows_in self.now.flows.now) arms.now other self.now.cell))) }
+        ensures ok { OnOk result (Appended piece.old piece.new self.now.withs.now (part_at out (choice_among
+            self.now.flows.now.fragments.nodes.items (flows_in self.now.flows.now) arms.now other self.now.cell))) }
     {
         let mut left = sum(self.flows.arms_size(arms)?, self.flows.other_size(other)?)?;
         for arm in arms {
@@ -119,7 +130,8 @@ impl Appender<'_> {
         requires sound { AreSound self.now.flows.now }
         requires there { Each (IsBefore (length self.now.flows.now.nodes.items)) entries.now }
         ensures begins { Begins piece.old piece.new }
-        ensures ok { OnOk result (Appended piece.old piece.new self.now.withs.now (part_at out (block_among (flows_in self.now.flows.now) entries.now self.now.cell))) }
+        ensures ok { OnOk result (Appended piece.old piece.new self.now.withs.now
+            (part_at out (block_among (flows_in self.now.flows.now) entries.now self.now.cell))) }
     {
         let mut behind = sum(out, self.flows.block_size(entries)?)?;
         for entry in entries {
@@ -142,7 +154,8 @@ impl Appender<'_> {
         requires test { IsIn self.now.flows.now.fragments.nodes.items test }
         requires body { IsAmong self.now.flows.now body }
         ensures begins { Begins piece.old piece.new }
-        ensures ok { OnOk result (Appended piece.old piece.new self.now.withs.now (part_at out (spec_while_true (part self.now.flows.now.fragments.nodes.items test) (flow_in self.now.flows.now body self.now.cell)))) }
+        ensures ok { OnOk result (Appended piece.old piece.new self.now.withs.now (part_at out (spec_while_true
+            (part self.now.flows.now.fragments.nodes.items test) (flow_in self.now.flows.now body self.now.cell)))) }
     {
         let behind = sum(self.flows.size(body), JUMP)?;
         let all = sum(self.flows.fragments.size(test), behind)?;
@@ -165,7 +178,8 @@ impl Appender<'_> {
         requires body { IsAmong self.now.flows.now body }
         requires test { IsIn self.now.flows.now.fragments.nodes.items test }
         ensures begins { Begins piece.old piece.new }
-        ensures ok { OnOk result (Appended piece.old piece.new self.now.withs.now (part_at out (spec_until_true (flow_in self.now.flows.now body self.now.cell) (part self.now.flows.now.fragments.nodes.items test)))) }
+        ensures ok { OnOk result (Appended piece.old piece.new self.now.withs.now (part_at out (spec_until_true
+            (flow_in self.now.flows.now body self.now.cell) (part self.now.flows.now.fragments.nodes.items test)))) }
     {
         let test_size = self.flows.fragments.size(test);
         let behind = sum(out, sum(test_size, JUMP)?)?;
@@ -181,7 +195,8 @@ impl Appender<'_> {
         requires sound { AreSound self.now.flows.now }
         requires there { IsAmong self.now.flows.now body }
         ensures begins { Begins piece.old piece.new }
-        ensures ok { (out : ℕ) → OnOk result (Appended piece.old piece.new self.now.withs.now (part_at out (spec_for_ever (flow_in self.now.flows.now body self.now.cell)))) }
+        ensures ok { (out : ℕ) → OnOk result (Appended piece.old piece.new self.now.withs.now
+            (part_at out (spec_for_ever (flow_in self.now.flows.now body self.now.cell)))) }
     {
         self.append_inner(body, JUMP, piece)?;
         push_instr(piece, Instr::Jump(backward(self.flows.size(body))?))
@@ -199,7 +214,10 @@ impl Appender<'_> {
         requires again { IsCodeOf self.now.flows.now.fragments.nodes.items again.now }
         requires step { IsIn self.now.flows.now.fragments.nodes.items step }
         ensures begins { Begins piece.old piece.new }
-        ensures ok { OnOk result (Appended piece.old piece.new self.now.withs.now (again_part size (code_bytes self.now.flows.now again.now) (fragment_bytes self.now.flows.now step) (code_by self.now.flows.now.fragments.nodes.items again.now self.now.cell) (part self.now.flows.now.fragments.nodes.items step))) }
+        ensures ok { OnOk result (Appended piece.old piece.new self.now.withs.now
+            (again_part size (code_bytes self.now.flows.now again.now) (fragment_bytes self.now.flows.now step)
+            (code_by self.now.flows.now.fragments.nodes.items again.now self.now.cell)
+            (part self.now.flows.now.fragments.nodes.items step))) }
     {
         let step_size = sum(self.flows.fragments.size(step), JUMP)?;
         let all = sum(sum(size, self.flows.code_size(again)?)?, step_size)?;
@@ -218,8 +236,10 @@ impl Appender<'_> {
         requires again { IsCodeOf self.now.flows.now.fragments.nodes.items turns.now.again.now }
         requires step { IsIn self.now.flows.now.fragments.nodes.items turns.now.step }
         ensures begins { Begins piece.old piece.new }
-        ensures ok { OnOk result (Appended piece.old piece.new self.now.withs.now
-            (part_at out (spec_counted (code_by self.now.flows.now.fragments.nodes.items turns.now.first.now self.now.cell) (flow_in self.now.flows.now turns.now.body self.now.cell) (code_by self.now.flows.now.fragments.nodes.items turns.now.again.now self.now.cell) (part self.now.flows.now.fragments.nodes.items turns.now.step)))) }
+        ensures ok { OnOk result (Appended piece.old piece.new self.now.withs.now (part_at out
+            (spec_counted (code_by self.now.flows.now.fragments.nodes.items turns.now.first.now self.now.cell)
+            (flow_in self.now.flows.now turns.now.body self.now.cell) (code_by self.now.flows.now.fragments.nodes.items
+            turns.now.again.now self.now.cell) (part self.now.flows.now.fragments.nodes.items turns.now.step)))) }
     {
         let size = self.flows.size(turns.body);
         let codes = sum(
@@ -245,7 +265,8 @@ impl Appender<'_> {
         requires sound { AreSound self.now.flows.now }
         requires there { IsAmong self.now.flows.now body }
         ensures begins { Begins piece.old piece.new }
-        ensures ok { OnOk result (Appended piece.old piece.new self.now.withs.now (part_at out (spec_with_cell (λ t. flow_in self.now.flows.now body t)))) }
+        ensures ok { OnOk result (Appended piece.old piece.new self.now.withs.now
+            (part_at out (spec_with_cell (λ t. flow_in self.now.flows.now body t)))) }
     {
         let cell = piece.cell;
         piece.cell = capped_sum(cell, 1);
@@ -259,7 +280,8 @@ impl Appender<'_> {
         requires sound { AreSound self.now.flows.now }
         requires there { IsAmong self.now.flows.now body }
         ensures begins { Begins piece.old piece.new }
-        ensures ok { OnOk result (Appended piece.old piece.new self.now.withs.now (part_at out (spec_in_with self.now.cell (flow_in self.now.flows.now body self.now.cell)))) }
+        ensures ok { OnOk result (Appended piece.old piece.new self.now.withs.now
+            (part_at out (spec_in_with self.now.cell (flow_in self.now.flows.now body self.now.cell)))) }
     {
         let mut inner = Vec::new(*piece.steps.allocator());
         let of = Place {
@@ -280,9 +302,11 @@ impl Appender<'_> {
     #[cycle(flows)]
     fn append_form(&self, form: &FlowForm, out: u64, piece: &mut Piece) -> Result<(), Memory>
         requires sound { AreSound self.now.flows.now }
-        requires there { IsMadeOf self.now.flows.now.fragments.nodes.items (length self.now.flows.now.nodes.items) form.now }
+        requires there { IsMadeOf self.now.flows.now.fragments.nodes.items
+            (length self.now.flows.now.nodes.items) form.now }
         ensures begins { Begins piece.old piece.new }
-        ensures ok { OnOk result (Appended piece.old piece.new self.now.withs.now (part_at out (form_flow self.now.flows.now form.now self.now.cell))) }
+        ensures ok { OnOk result (Appended piece.old piece.new self.now.withs.now
+            (part_at out (form_flow self.now.flows.now form.now self.now.cell))) }
     {
         match form {
             FlowForm::Straight(code) => append_code(
@@ -323,7 +347,8 @@ impl Appender<'_> {
         requires sound { AreSound self.now.flows.now }
         requires there { IsAmong self.now.flows.now flow }
         ensures begins { Begins piece.old piece.new }
-        ensures ok { OnOk result (Appended piece.old piece.new self.now.withs.now (part_at out (flow_in self.now.flows.now flow self.now.cell))) }
+        ensures ok { OnOk result (Appended piece.old piece.new self.now.withs.now
+            (part_at out (flow_in self.now.flows.now flow self.now.cell))) }
     {
         match flow {
             Flow::Nothing => Ok(()),
@@ -335,8 +360,8 @@ impl Appender<'_> {
     }
 }
 
-/// Appends the code and the data of a whole statement, which is in no LOOP and no WITH. Without memory the piece has what it
-/// had before.
+/// Appends the code and the data of a whole statement, which is in no LOOP and no WITH. Without memory the piece has
+/// what it had before.
 pub fn append_flow(flows: &Flows, flow: Flow, piece: &mut Piece) -> Result<(), Memory>
     requires sound { AreSound flows.now }
     requires there { IsAmong flows.now flow }

@@ -2,8 +2,13 @@
 ghost use Rattle.std.specs.Prelude.{length};
 ghost use Rattle.m2_base.specs.Lists.{Each};
 ghost use Rattle.expr_sem.specs.Fragments.{IsIn, part};
-ghost use Rattle.stmt_sem.specs.FlowNodes.{AreSound, IsAmong, IsArmOf, IsBefore, IsBeforeIfAny, IsCodeOf, IsFlowMade, IsMadeOf, Measures, block_among, choice_among, code_by, flow_in, flows_in, form_flow};
-ghost use Rattle.stmt_sem.specs.Flows.{counted as spec_counted, exit as spec_exit, for_ever as spec_for_ever, in_with as spec_in_with, straight as spec_straight, until_true as spec_until_true, while_true as spec_while_true, with_cell as spec_with_cell};
+ghost use Rattle.stmt_sem.specs.FlowNodes.{AreSound, IsAmong, IsArmOf, IsBefore, IsBeforeIfAny, IsCodeOf, IsFlowMade};
+ghost use Rattle.stmt_sem.specs.FlowNodes.{IsMadeOf, Measures, block_among, choice_among, code_by, flow_in, flows_in};
+ghost use Rattle.stmt_sem.specs.FlowNodes.{form_flow};
+ghost use Rattle.stmt_sem.specs.Flows.{counted as spec_counted, exit as spec_exit, for_ever as spec_for_ever};
+ghost use Rattle.stmt_sem.specs.Flows.{in_with as spec_in_with, straight as spec_straight};
+ghost use Rattle.stmt_sem.specs.Flows.{until_true as spec_until_true, while_true as spec_while_true};
+ghost use Rattle.stmt_sem.specs.Flows.{with_cell as spec_with_cell};
 
 use crate::flow_sizes::{JUMP, sum};
 use crate::flows::{Arm, Code, Flow, FlowForm, FlowNode, Flows};
@@ -27,7 +32,8 @@ impl Flows {
     /// A statement's own code.
     pub fn straight(&mut self, code: Code) -> Result<Flow, Memory>
         requires there { IsCodeOf self.now.fragments.nodes.items code }
-        ensures made { IsFlowMade self.old self.new result (λ t. spec_straight (code_by self.old.fragments.nodes.items code t)) }
+        ensures made { IsFlowMade self.old self.new result
+            (λ t. spec_straight (code_by self.old.fragments.nodes.items code t)) }
     {
         let size = self.code_size(&code)?;
         self.push(FlowForm::Straight(code), size)
@@ -53,7 +59,8 @@ impl Flows {
     pub fn choice(&mut self, arms: Vec<Arm>, other: Option<Flow>) -> Result<Flow, Memory>
         requires arms { Each (IsArmOf self.now.fragments.nodes.items (length self.now.nodes.items)) arms.items }
         requires other { IsBeforeIfAny (length self.now.nodes.items) other }
-        ensures made { IsFlowMade self.old self.new result (choice_among self.old.fragments.nodes.items (flows_in self.old) arms.items other) }
+        ensures made { IsFlowMade self.old self.new result
+            (choice_among self.old.fragments.nodes.items (flows_in self.old) arms.items other) }
     {
         let size = self.choice_size(&arms, other)?;
         self.push(FlowForm::Choice(arms, other), size)
@@ -63,7 +70,8 @@ impl Flows {
     pub fn while_true(&mut self, test: Fragment, body: Flow) -> Result<Flow, Memory>
         requires test { IsIn self.now.fragments.nodes.items test }
         requires body { IsAmong self.now body }
-        ensures made { IsFlowMade self.old self.new result (λ t. spec_while_true (part self.old.fragments.nodes.items test) (flow_in self.old body t)) }
+        ensures made { IsFlowMade self.old self.new result
+            (λ t. spec_while_true (part self.old.fragments.nodes.items test) (flow_in self.old body t)) }
     {
         let once = sum(self.fragments.size(test), self.size(body))?;
         let size = sum(once, JUMP + JUMP)?;
@@ -74,7 +82,8 @@ impl Flows {
     pub fn until_true(&mut self, body: Flow, test: Fragment) -> Result<Flow, Memory>
         requires body { IsAmong self.now body }
         requires test { IsIn self.now.fragments.nodes.items test }
-        ensures made { IsFlowMade self.old self.new result (λ t. spec_until_true (flow_in self.old body t) (part self.old.fragments.nodes.items test)) }
+        ensures made { IsFlowMade self.old self.new result
+            (λ t. spec_until_true (flow_in self.old body t) (part self.old.fragments.nodes.items test)) }
     {
         let once = sum(self.size(body), self.fragments.size(test))?;
         let size = sum(once, JUMP)?;
@@ -90,7 +99,8 @@ impl Flows {
         self.push(FlowForm::ForEver(body), size)
     }
 
-    /// Where the first test holds the body, and after each body, where the second test holds, the step and the body again.
+    /// Where the first test holds the body, and after each body, where the second test holds,
+    /// the step and the body again.
     pub fn counted(
         &mut self,
         first: Code,
@@ -102,7 +112,9 @@ impl Flows {
         requires body { IsAmong self.now body }
         requires again { IsCodeOf self.now.fragments.nodes.items again }
         requires step { IsIn self.now.fragments.nodes.items step }
-        ensures made { IsFlowMade self.old self.new result (λ t. spec_counted (code_by self.old.fragments.nodes.items first t) (flow_in self.old body t) (code_by self.old.fragments.nodes.items again t) (part self.old.fragments.nodes.items step)) }
+        ensures made { IsFlowMade self.old self.new result
+            (λ t. spec_counted (code_by self.old.fragments.nodes.items first t) (flow_in self.old body t)
+            (code_by self.old.fragments.nodes.items again t) (part self.old.fragments.nodes.items step)) }
     {
         let tests = sum(self.code_size(&first)?, self.code_size(&again)?)?;
         let rest = sum(self.size(body), self.fragments.size(step))?;

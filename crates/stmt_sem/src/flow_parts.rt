@@ -3,8 +3,10 @@ ghost use Rattle.std.specs.Prelude.{◌≡◌, ◌∷◌, Some, length, IfOk};
 ghost use Rattle.m2_base.specs.Lists.{Each};
 ghost use Rattle.expr_sem.specs.Codings.{with_types};
 ghost use Rattle.expr_sem.specs.Fragments.{IsIn, part};
-ghost use Rattle.stmt_sem.specs.FlowNodes.{AreSound, IsAmong, IsArmOf, IsCodeOf, IsFlowMade, choice_among, code_by, flow_in, flows_in};
-ghost use Rattle.stmt_sem.specs.Flows.{in_with as spec_in_with, straight as spec_straight, with_cell as spec_with_cell, ◌⨾◌};
+ghost use Rattle.stmt_sem.specs.FlowNodes.{AreSound, IsAmong, IsArmOf, IsCodeOf, IsFlowMade, choice_among, code_by};
+ghost use Rattle.stmt_sem.specs.FlowNodes.{flow_in, flows_in};
+ghost use Rattle.stmt_sem.specs.Flows.{in_with as spec_in_with, straight as spec_straight};
+ghost use Rattle.stmt_sem.specs.Flows.{with_cell as spec_with_cell, ◌⨾◌};
 ghost use Rattle.stmt_sem.specs.Stated.{answer_of};
 ghost use Rattle.stmt_sem.specs.StatementParts.{stored_before as spec_stored};
 
@@ -39,7 +41,8 @@ pub fn celled(code: Code, rest: Flow, flows: &mut Flows) -> Result<Flow, Memory>
     requires sound { AreSound flows.old }
     requires code { IsCodeOf flows.old.fragments.nodes.items code }
     requires rest { IsAmong flows.old rest }
-    ensures { IsFlowMade flows.old flows.new result (λ u. spec_with_cell (λ t. spec_straight (code_by flows.old.fragments.nodes.items code t) ⨾ flow_in flows.old rest t)) }
+    ensures { IsFlowMade flows.old flows.new result (λ u. spec_with_cell
+        (λ t. spec_straight (code_by flows.old.fragments.nodes.items code t) ⨾ flow_in flows.old rest t)) }
 {
     let first = flows.straight(code)?;
     let both = behind(first, rest, flows)?;
@@ -57,7 +60,8 @@ pub fn case_made(
     requires value { IsIn flows.old.fragments.nodes.items value }
     requires arms { Each (IsArmOf flows.old.fragments.nodes.items (length flows.old.nodes.items)) arms.items }
     requires other { IsAmong flows.old other }
-    ensures { IsFlowMade flows.old flows.new result (λ u. spec_stored (part flows.old.fragments.nodes.items value) (choice_among flows.old.fragments.nodes.items (flows_in flows.old) arms.items (Some other))) }
+    ensures { IsFlowMade flows.old flows.new result (λ u. spec_stored (part flows.old.fragments.nodes.items value)
+        (choice_among flows.old.fragments.nodes.items (flows_in flows.old) arms.items (Some other))) }
 {
     let choice = flows.choice(arms, Some(other))?;
     celled(Code::Stored(value), choice, flows)
@@ -68,7 +72,8 @@ pub fn with_made(address: Fragment, body: Flow, flows: &mut Flows) -> Result<Flo
     requires sound { AreSound flows.old }
     requires address { IsIn flows.old.fragments.nodes.items address }
     requires body { IsAmong flows.old body }
-    ensures { IsFlowMade flows.old flows.new result (λ u. spec_stored (part flows.old.fragments.nodes.items address) (λ t. spec_in_with t (flow_in flows.old body t))) }
+    ensures { IsFlowMade flows.old flows.new result (λ u.
+        spec_stored (part flows.old.fragments.nodes.items address) (λ t. spec_in_with t (flow_in flows.old body t))) }
 {
     let inner = flows.in_with(body)?;
     celled(Code::Stored(address), inner, flows)

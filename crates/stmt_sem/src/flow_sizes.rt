@@ -3,7 +3,9 @@ ghost use Rattle.std.specs.Prelude.{◌≡◌, ℕ, ◌+◌, IfOk, length, map};
 ghost use Rattle.m2_base.specs.Lists.{Each};
 ghost use Rattle.stmt_sem.specs.Cases.{label_code, labels_code};
 ghost use Rattle.case_labels.specs.Seen.{test_seen};
-ghost use Rattle.stmt_sem.specs.FlowNodes.{AreSound, IsAmong, IsArmOf, IsBeforeIfAny, IsCodeOf, Measures, MeasuresPart, block_among, choice_among, code_by, flow_in, flows_in, other_among};
+ghost use Rattle.stmt_sem.specs.FlowNodes.{AreSound, IsAmong, IsArmOf, IsBeforeIfAny, IsCodeOf, Measures};
+ghost use Rattle.stmt_sem.specs.FlowNodes.{MeasuresPart, block_among, choice_among, code_by, flow_in, flows_in};
+ghost use Rattle.stmt_sem.specs.FlowNodes.{other_among};
 ghost use Rattle.stmt_sem.specs.FlowPieces.{Over};
 ghost use Rattle.stmt_sem.specs.FlowSizes.{arm_bytes, arms_bytes, flow_bytes, label_bytes, labels_bytes};
 
@@ -74,7 +76,8 @@ impl Flows {
     /// The length of a statement's own code in bytes.
     pub fn code_size(&self, code: &Code) -> Result<u64, Memory>
         requires there { IsCodeOf self.now.fragments.nodes.items code.now }
-        ensures { AreSound self.now → IfOk result (λ n. MeasuresPart (code_by self.now.fragments.nodes.items code.now) n) }
+        ensures { AreSound self.now
+            → IfOk result (λ n. MeasuresPart (code_by self.now.fragments.nodes.items code.now) n) }
     {
         match code {
             Code::Fixed(fragment) => Ok(self.fragments.size(*fragment)),
@@ -124,7 +127,8 @@ impl Flows {
     /// The length of what stands where no arm is taken, with a jump before it.
     pub fn other_size(&self, other: Option<Flow>) -> Result<u64, Memory>
         requires there { IsBeforeIfAny (length self.now.nodes.items) other }
-        ensures { AreSound self.now → IfOk result (λ n. (cell : ℕ) → Over (other_among (flows_in self.now) other cell) n) }
+        ensures { AreSound self.now
+            → IfOk result (λ n. (cell : ℕ) → Over (other_among (flows_in self.now) other cell) n) }
     {
         match other {
             Some(flow) => sum(self.size(flow), JUMP),
@@ -136,7 +140,8 @@ impl Flows {
     pub fn choice_size(&self, arms: &[Arm], other: Option<Flow>) -> Result<u64, Memory>
         requires arms { Each (IsArmOf self.now.fragments.nodes.items (length self.now.nodes.items)) arms.now }
         requires other { IsBeforeIfAny (length self.now.nodes.items) other }
-        ensures { AreSound self.now → IfOk result (λ n. Measures (choice_among self.now.fragments.nodes.items (flows_in self.now) arms.now other) n) }
+        ensures { AreSound self.now → IfOk result
+            (λ n. Measures (choice_among self.now.fragments.nodes.items (flows_in self.now) arms.now other) n) }
     {
         let total = sum(self.arms_size(arms)?, self.other_size(other)?)?;
         Ok(total.saturating_sub(JUMP))

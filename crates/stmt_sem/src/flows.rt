@@ -1,6 +1,7 @@
 //! Flows: the code of statements in the making. As a fragment stands for a part of code, a flow stands for the code of
-//! statements, which is known once it is also told its statement's own cell, and how far away the end of the innermost LOOP is.
-//! Each is made of earlier ones, so that no code is copied, and since the length of each is known, no jump is patched.
+//! statements, which is known once it is also told its statement's own cell, and how far away the end of the innermost
+//! LOOP is. Each is made of earlier ones, so that no code is copied, and since the length of each is known,
+//! no jump is patched.
 ghost use Rattle.std.specs.Prelude.{◌≡◌, []};
 ghost use Rattle.stmt_sem.specs.FlowNodes.{AreSound};
 
@@ -50,7 +51,8 @@ pub enum FlowForm {
     WhileTrue(Fragment, Flow),
     UntilTrue(Flow, Fragment),
     ForEver(Flow),
-    /// Where the first test holds the body, and after each body, where the second test holds, the step and the body again.
+    /// Where the first test holds the body, and after each body, where the second test holds,
+    /// the step and the body again.
     Counted {
         first: Code,
         body: Flow,

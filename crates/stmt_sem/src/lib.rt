@@ -1,12 +1,13 @@
 //! Which code do statements become, and which has a block?
 //!
-//! The words are those of Wirth's report and of the machine's instructions (`code_form`). The code of an expression is a
-//! part of code (`expr_sem`'s `specs/Parts`); that of statements is a flow, which is known once it is also told how far away
-//! the end of the innermost LOOP is (`specs/Flows`). `specs/Statements` goes over the trees, `specs/BlockCode` puts a block
-//! together; each kind of statement has a file of its own below them. A `Walker` makes flows of statements where they stand
-//! (`specs/Walkers`). A `Body` is the code of a block in the making: it begins with what the body copies first, takes one
-//! statement after another, each as a whole or not at all, and ends (`specs/Bodies`); `procedure_code` is what the object
-//! file has of the whole. `state` makes the code of one statement alone (`specs/Stating`).
+//! The words are those of Wirth's report and of the machine's instructions (`code_form`). The code of an expression is
+//! a part of code (`expr_sem`'s `specs/Parts`); that of statements is a flow, which is known once it is also told how
+//! far away the end of the innermost LOOP is (`specs/Flows`). `specs/Statements` goes over the trees,
+//! `specs/BlockCode` puts a block together; each kind of statement has a file of its own below them. A `Walker` makes
+//! flows of statements where they stand (`specs/Walkers`). A `Body` is the code of a block in the making: it begins
+//! with what the body copies first, takes one statement after another, each as a whole or not at all, and ends
+//! (`specs/Bodies`); `procedure_code` is what the object file has of the whole.
+//! `state` makes the code of one statement alone (`specs/Stating`).
 #![tactic(auto)]
 
 /// The value of a question, or the end of the function where it isn't known yet.

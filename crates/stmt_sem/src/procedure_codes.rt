@@ -4,9 +4,11 @@ ghost use Rattle.std.specs.List.{flat_map};
 ghost use Rattle.code_form.specs.Bytes.{spelling};
 ghost use Rattle.code_form.specs.Heights.{greatest};
 ghost use Rattle.expr_sem.specs.Fragments.{step_view};
-ghost use Rattle.m2_base.specs.Statics.ProcedureRows.{parameter_cells as spec_cells, section_cells as spec_section, result_cells as spec_result};
+ghost use Rattle.m2_base.specs.Statics.ProcedureRows.{parameter_cells as spec_cells, section_cells as spec_section};
+ghost use Rattle.m2_base.specs.Statics.ProcedureRows.{result_cells as spec_result};
 ghost use Rattle.m2_base.specs.Views.{heading_view, section_view, stream_view};
-ghost use Rattle.stmt_sem.specs.BlockCode.{code_of_run, outer_of as spec_outer, params_of as spec_params, results_of as spec_results};
+ghost use Rattle.stmt_sem.specs.BlockCode.{code_of_run, outer_of as spec_outer, params_of as spec_params};
+ghost use Rattle.stmt_sem.specs.BlockCode.{results_of as spec_results};
 ghost use Rattle.stmt_sem.specs.Bodies.{whole_in, whole_of};
 ghost use Rattle.stmt_sem.specs.Flows.{Run};
 ghost use Rattle.stmt_sem.specs.ProcedureCodes.{code_view};
@@ -134,7 +136,8 @@ pub fn procedure_code(
     stream: &Stream,
     piece: Piece,
 ) -> Result<ProcCode, Memory>
-    ensures { IfOk result (λ code. (r : Run) → whole_in piece ≡ whole_of r → code_view code ≡ code_of_run (record { block = block_of around.now; tree = stream_view stream.now }) r) }
+    ensures { IfOk result (λ code. (r : Run) → whole_in piece ≡ whole_of r
+        → code_view code ≡ code_of_run (record { block = block_of around.now; tree = stream_view stream.now }) r) }
 {
     let params = params_of(&stream.heading)?;
     let high = greatest_height(&piece.steps)?;

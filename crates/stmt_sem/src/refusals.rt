@@ -32,7 +32,8 @@ pub fn refused_code(
     refusal: Diagnostic,
     notes: &mut Notes,
 ) -> Result<Ask<Fragment>, Memory>
-    ensures { (state : State) (nodes : List Node) → Coding state state notes.old notes.new nodes nodes site.now result IsFragment part (λ c. spec_refuse c at (code_of refusal) none) }
+    ensures { (state : State) (nodes : List Node) → Coding state state notes.old notes.new nodes nodes site.now result
+        IsFragment part (λ c. spec_refuse c at (code_of refusal) none) }
 {
     noted(site, at, refusal, notes)?;
     Ok(Ask::Known(Fragment::Nothing))
@@ -45,7 +46,8 @@ pub fn refused_type(
     refusal: Diagnostic,
     notes: &mut Notes,
 ) -> Result<Ask<Place>, Memory>
-    ensures { (state : State) (nodes : List Node) → IsThere state.frame broken → Coding state state notes.old notes.new nodes nodes site.now result IsType itself (λ c. spec_refuse c at (code_of refusal) broken) }
+    ensures { (state : State) (nodes : List Node) → IsThere state.frame broken → Coding state state notes.old notes.new
+        nodes nodes site.now result IsType itself (λ c. spec_refuse c at (code_of refusal) broken) }
 {
     noted(site, at, refusal, notes)?;
     Ok(Ask::Known(BROKEN))
@@ -58,7 +60,8 @@ pub fn refused_step(
     refusal: Diagnostic,
     notes: &mut Notes,
 ) -> Result<Ask<i64>, Memory>
-    ensures { (state : State) (nodes : List Node) → Coding state state notes.old notes.new nodes nodes site.now result IsStep itself (λ c. spec_refuse c at (code_of refusal) (pos 1)) }
+    ensures { (state : State) (nodes : List Node) → Coding state state notes.old notes.new nodes nodes site.now result
+        IsStep itself (λ c. spec_refuse c at (code_of refusal) (pos 1)) }
 {
     noted(site, at, refusal, notes)?;
     Ok(Ask::Known(1))

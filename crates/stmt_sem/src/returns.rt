@@ -11,7 +11,8 @@ ghost use Rattle.expr_sem.specs.Parts.{call, ◌⨟◌};
 ghost use Rattle.expr_sem.specs.Values.{assigned_to as spec_assigned};
 ghost use Rattle.type_rules.specs.Scenes.{IsThere};
 ghost use Rattle.type_rules.specs.Sites.{SuitsSite};
-ghost use Rattle.stmt_sem.specs.Returns.{return_alone as spec_alone, return_code as spec_return, return_value as spec_value, returned as spec_returned};
+ghost use Rattle.stmt_sem.specs.Returns.{return_alone as spec_alone, return_code as spec_return};
+ghost use Rattle.stmt_sem.specs.Returns.{return_value as spec_value, returned as spec_returned};
 ghost use Rattle.stmt_sem.specs.Stands.{IsStand};
 ghost use Rattle.stmt_sem.specs.Walkers.{Codes, Keeps, KeepsNodes, frame_of, nodes_of};
 
@@ -37,7 +38,8 @@ pub fn return_code(fragments: &mut Fragments) -> Result<Fragment, Memory>
 /// The end of a function, behind its value.
 fn return_behind(value: Fragment, fragments: &mut Fragments) -> Result<Fragment, Memory>
     requires { IsIn fragments.old.nodes.items value }
-    ensures { IsMade fragments.old.nodes.items fragments.new.nodes.items result (part fragments.old.nodes.items value ⨟ call instrs.Return 1 0) }
+    ensures { IsMade fragments.old.nodes.items fragments.new.nodes.items result
+        (part fragments.old.nodes.items value ⨟ call instrs.Return 1 0) }
 {
     let last = fragments.step(Step {
         instr: Instr::Return,
@@ -58,7 +60,9 @@ fn fitted_return<S: Scopes>(
     requires suits { SuitsSite (S.state scopes.old).frame site.now }
     requires of { IsThere (S.state scopes.old).frame of }
     requires x { IsCoded (S.state scopes.old).frame fragments.old.nodes.items x }
-    ensures { (notes : NotesOf) → Coding (S.state scopes.old) (S.state scopes.new) notes notes fragments.old.nodes.items fragments.new.nodes.items site.now result IsFragment part (λ c. gives (spec_fitted c of (coded_in fragments.old.nodes.items x) ⨟ call instrs.Return 1 0)) }
+    ensures { (notes : NotesOf) → Coding (S.state scopes.old) (S.state scopes.new) notes notes
+        fragments.old.nodes.items fragments.new.nodes.items site.now result IsFragment part
+        (λ c. gives (spec_fitted c of (coded_in fragments.old.nodes.items x) ⨟ call instrs.Return 1 0)) }
 {
     let value = analysed!(fitted_code(scopes, site, of, x, fragments));
     answered(return_behind(value, fragments))
@@ -75,7 +79,9 @@ fn returned<S: Scopes>(
     requires suits { SuitsSite (S.state scopes.old).frame site.now }
     requires of { IsThere (S.state scopes.old).frame of }
     requires x { IsCoded (S.state scopes.old).frame fragments.old.nodes.items x }
-    ensures { (notes : NotesOf) → Coding (S.state scopes.old) (S.state scopes.new) notes notes fragments.old.nodes.items fragments.new.nodes.items site.now result IsFragment part (λ c. gives (spec_returned c of (coded_in fragments.old.nodes.items x))) }
+    ensures { (notes : NotesOf) → Coding (S.state scopes.old) (S.state scopes.new) notes notes
+        fragments.old.nodes.items fragments.new.nodes.items site.now result IsFragment part
+        (λ c. gives (spec_returned c of (coded_in fragments.old.nodes.items x))) }
 {
     if is_bad(x.operand) {
         return Ok(Ask::Known(Fragment::Nothing));
@@ -91,7 +97,8 @@ pub fn return_alone(
     fragments: &mut Fragments,
     notes: &mut Notes,
 ) -> Result<Ask<Fragment>, Memory>
-    ensures { (state : State) → Coding state state notes.old notes.new fragments.old.nodes.items fragments.new.nodes.items site.now result IsFragment part (λ c. spec_alone c at of) }
+    ensures { (state : State) → Coding state state notes.old notes.new fragments.old.nodes.items
+        fragments.new.nodes.items site.now result IsFragment part (λ c. spec_alone c at of) }
 {
     match of {
         None => answered(return_code(fragments)),
@@ -112,7 +119,9 @@ impl<S: Scopes> Walker<'_, S> {
         requires x { IsCoded (frame_of S.state self.old) (nodes_of self.old) x.coded }
         ensures keeps { Keeps self.old self.new }
         ensures nodes { KeepsNodes self.old self.new }
-        ensures codes { Codes S.state self.old self.new stand.now result IsFragment part (λ s. and_then (spec_assigned s.context of x.at not_assignable (coded_in (nodes_of self.old) x.coded)) (λ v. gives (spec_returned s.context of v))) }
+        ensures codes { Codes S.state self.old self.new stand.now result IsFragment part
+            (λ s. and_then (spec_assigned s.context of x.at not_assignable (coded_in (nodes_of self.old) x.coded))
+            (λ v. gives (spec_returned s.context of v))) }
     {
         let value = analysed!(self.assigned_to(stand, of, Diagnostic::NotAssignable, x));
         returned(
@@ -135,7 +144,8 @@ impl<S: Scopes> Walker<'_, S> {
         requires x { IsCoded (frame_of S.state self.old) (nodes_of self.old) x.coded }
         ensures keeps { Keeps self.old self.new }
         ensures nodes { KeepsNodes self.old self.new }
-        ensures codes { Codes S.state self.old self.new stand.now result IsFragment part (λ s. spec_value s.context at s.result x.at (coded_in (nodes_of self.old) x.coded)) }
+        ensures codes { Codes S.state self.old self.new stand.now result IsFragment part
+            (λ s. spec_value s.context at s.result x.at (coded_in (nodes_of self.old) x.coded)) }
     {
         match stand.result {
             None => refused_code(stand.site, at, Diagnostic::WrongReturn, self.notes),

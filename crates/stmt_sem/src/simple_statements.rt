@@ -39,7 +39,8 @@ impl<S: Scopes> Walker<'_, S> {
         requires to { IsReadDesignator (names_of stand.now) (designator_view to.now) }
         requires value { IsReadExpr (names_of stand.now) (expr_view value.now) }
         ensures keeps { Keeps self.old self.new }
-        ensures walks { Walks S.state self.old self.new stand.now result IsFlow flow_in (λ s. form_of s (assign_form (designator_view to.now) (expr_view value.now))) }
+        ensures walks { Walks S.state self.old self.new stand.now result IsFlow flow_in
+            (λ s. form_of s (assign_form (designator_view to.now) (expr_view value.now))) }
     {
         let variable = analysed!(self.variable(stand, to));
         let coded = analysed!(self.value_of(stand, value));
@@ -63,7 +64,8 @@ impl<S: Scopes> Walker<'_, S> {
         requires to { IsReadDesignator (names_of stand.now) (designator_view to.now) }
         requires args { AreReadExprs (names_of stand.now) (exprs (map expr_view args.now)) }
         ensures keeps { Keeps self.old self.new }
-        ensures walks { Walks S.state self.old self.new stand.now result IsFlow flow_in (λ s. form_of s (spec_call (designator_view to.now) (exprs (map expr_view args.now)))) }
+        ensures walks { Walks S.state self.old self.new stand.now result IsFlow flow_in
+            (λ s. form_of s (spec_call (designator_view to.now) (exprs (map expr_view args.now)))) }
     {
         let code = analysed!(self.called(stand, to, args));
         answered(self.flows.straight(Code::Fixed(code)))
@@ -80,7 +82,8 @@ impl<S: Scopes> Walker<'_, S> {
         requires sound { AreSound self.old.flows.now }
         requires value { IsReadExprOption (names_of stand.now) (option_map expr_view value.now) }
         ensures keeps { Keeps self.old self.new }
-        ensures walks { Walks S.state self.old self.new stand.now result IsFlow flow_in (λ s. form_flow s at (return_form (option_map expr_view value.now))) }
+        ensures walks { Walks S.state self.old self.new stand.now result IsFlow flow_in
+            (λ s. form_flow s at (return_form (option_map expr_view value.now))) }
     {
         let code = analysed!(self.returned(stand, at, value));
         answered(self.flows.straight(Code::Fixed(code)))
@@ -94,7 +97,8 @@ pub fn exit_statement(
     flows: &mut Flows,
     notes: &mut Notes,
 ) -> Result<Ask<Flow>, Memory>
-    ensures { (state : State) → Flowing state state notes.old notes.new flows.old flows.new stand.now.site.now result IsFlow flow_in (λ c. exit_of (stand_in c stand.now) at) }
+    ensures { (state : State) → Flowing state state notes.old notes.new flows.old flows.new stand.now.site.now result
+        IsFlow flow_in (λ c. exit_of (stand_in c stand.now) at) }
 {
     if stand.looped {
         return answered(flows.exit());
@@ -106,7 +110,8 @@ pub fn exit_statement(
 /// What stands where no label of a CASE holds and there is no ELSE.
 pub fn no_case_else(flows: &mut Flows) -> Result<Ask<Flow>, Memory>
     requires sound { AreSound flows.old }
-    ensures { (state : State) (notes : NotesOf) (s : SiteOf) → Flowing state state notes notes flows.old flows.new s result IsFlow flow_in (λ c. gives (straight spec_none)) }
+    ensures { (state : State) (notes : NotesOf) (s : SiteOf) → Flowing state state notes notes flows.old flows.new s
+        result IsFlow flow_in (λ c. gives (straight spec_none)) }
 {
     let trap = no_case(&mut flows.fragments)?;
     answered(flows.straight(Code::Fixed(trap)))

@@ -2,8 +2,8 @@
 use expr_sem::With;
 use m2_base::{Place, Site};
 
-/// Where a statement stands: in its block, whose procedure has this result, in the open WITHs, the innermost first, and
-/// in a LOOP or in none.
+/// Where a statement stands: in its block, whose procedure has this result, in the open WITHs, the innermost first,
+/// and in a LOOP or in none.
 #[derive(Clone, Copy)]
 pub struct Stand<'a, 'b> {
     pub site: &'a Site<'b>,

@@ -7,7 +7,8 @@ ghost use Rattle.expr_sem.specs.Codings.{IsCoded, IsFragment, coded_in};
 ghost use Rattle.expr_sem.specs.Fragments.{part};
 ghost use Rattle.m2_base.specs.Statics.ReadStatements.{IsReadExprOption};
 ghost use Rattle.stmt_sem.specs.Stands.{IsStand, names_of};
-ghost use Rattle.stmt_sem.specs.StatementParts.{called as spec_called, record_of as spec_record, selector as spec_selector, typed_selector as spec_typed};
+ghost use Rattle.stmt_sem.specs.StatementParts.{called as spec_called, record_of as spec_record};
+ghost use Rattle.stmt_sem.specs.StatementParts.{selector as spec_selector, typed_selector as spec_typed};
 ghost use Rattle.stmt_sem.specs.Statements.{return_of, test as spec_test, variable as spec_variable};
 ghost use Rattle.stmt_sem.specs.Taken.{IsSelector, selector_in};
 ghost use Rattle.stmt_sem.specs.Walkers.{Codes, Keeps, KeepsNodes, frame_of, nodes_of};
@@ -28,7 +29,8 @@ impl<S: Scopes> Walker<'_, S> {
         requires of { IsReadDesignator (names_of stand.now) (designator_view of.now) }
         ensures keeps { Keeps self.old self.new }
         ensures nodes { KeepsNodes self.old self.new }
-        ensures codes { Codes S.state self.old self.new stand.now result IsCoded coded_in (λ s. spec_variable s (designator_view of.now)) }
+        ensures codes { Codes S.state self.old self.new stand.now result IsCoded coded_in
+            (λ s. spec_variable s (designator_view of.now)) }
     {
         let x = analysed!(self.designated(stand, of));
         as_variable(stand.site, of.first.at, x, self.notes)
@@ -40,7 +42,8 @@ impl<S: Scopes> Walker<'_, S> {
         requires e { IsReadExpr (names_of stand.now) (expr_view e.now) }
         ensures keeps { Keeps self.old self.new }
         ensures nodes { KeepsNodes self.old self.new }
-        ensures codes { Codes S.state self.old self.new stand.now result IsFragment part (λ s. spec_test s (expr_view e.now)) }
+        ensures codes { Codes S.state self.old self.new stand.now result IsFragment part
+            (λ s. spec_test s (expr_view e.now)) }
     {
         let coded = analysed!(self.value_of(stand, e));
         let x = Placed { at: e.at, coded };
@@ -59,7 +62,8 @@ impl<S: Scopes> Walker<'_, S> {
         requires args { AreReadExprs (names_of stand.now) (exprs (map expr_view args.now)) }
         ensures keeps { Keeps self.old self.new }
         ensures nodes { KeepsNodes self.old self.new }
-        ensures codes { Codes S.state self.old self.new stand.now result IsFragment part (λ s. spec_called s (designator_view of.now) (exprs (map expr_view args.now))) }
+        ensures codes { Codes S.state self.old self.new stand.now result IsFragment part
+            (λ s. spec_called s (designator_view of.now) (exprs (map expr_view args.now))) }
     {
         let x = analysed!(self.call_alone(stand, of, args));
         Ok(Ask::Known(code_unless_bad(x)))
@@ -76,7 +80,8 @@ impl<S: Scopes> Walker<'_, S> {
         requires value { IsReadExprOption (names_of stand.now) (option_map expr_view value.now) }
         ensures keeps { Keeps self.old self.new }
         ensures nodes { KeepsNodes self.old self.new }
-        ensures codes { Codes S.state self.old self.new stand.now result IsFragment part (λ s. return_of s at (option_map expr_view value.now)) }
+        ensures codes { Codes S.state self.old self.new stand.now result IsFragment part
+            (λ s. return_of s at (option_map expr_view value.now)) }
     {
         match value {
             None => return_alone(
@@ -100,7 +105,8 @@ impl<S: Scopes> Walker<'_, S> {
         requires x { IsCoded (frame_of S.state self.old) (nodes_of self.old) x.coded }
         ensures keeps { Keeps self.old self.new }
         ensures nodes { KeepsNodes self.old self.new }
-        ensures codes { Codes S.state self.old self.new stand.now result IsSelector selector_in (λ s. spec_typed s x.at (coded_in (nodes_of self.old) x.coded)) }
+        ensures codes { Codes S.state self.old self.new stand.now result IsSelector selector_in
+            (λ s. spec_typed s x.at (coded_in (nodes_of self.old) x.coded)) }
     {
         let of = analysed!(selector_type(self.scopes, stand.site, x.at, x.coded, self.notes));
         let value = analysed!(selector_value(
@@ -118,7 +124,8 @@ impl<S: Scopes> Walker<'_, S> {
         requires e { IsReadExpr (names_of stand.now) (expr_view e.now) }
         ensures keeps { Keeps self.old self.new }
         ensures nodes { KeepsNodes self.old self.new }
-        ensures codes { Codes S.state self.old self.new stand.now result IsSelector selector_in (λ s. spec_selector s (expr_view e.now)) }
+        ensures codes { Codes S.state self.old self.new stand.now result IsSelector selector_in
+            (λ s. spec_selector s (expr_view e.now)) }
     {
         let coded = analysed!(self.value_of(stand, e));
         let x = Placed { at: e.at, coded };
@@ -131,7 +138,8 @@ impl<S: Scopes> Walker<'_, S> {
         requires of { IsReadDesignator (names_of stand.now) (designator_view of.now) }
         ensures keeps { Keeps self.old self.new }
         ensures nodes { KeepsNodes self.old self.new }
-        ensures codes { Codes S.state self.old self.new stand.now result IsCoded coded_in (λ s. spec_record s (designator_view of.now)) }
+        ensures codes { Codes S.state self.old self.new stand.now result IsCoded coded_in
+            (λ s. spec_record s (designator_view of.now)) }
     {
         let x = analysed!(self.variable(stand, of));
         record_variable(self.scopes, stand.site, of.first.at, x, self.notes)

@@ -1,7 +1,9 @@
 //! The code of statements, by recursion on the trees. What is noted comes in text order.
 ghost use Rattle.std.specs.Prelude.{◌≡◌, ◌≢◌, [], false, map, option_map};
-ghost use Rattle.m2_base.specs.Trees.{case_arms, case_form, for_form, if_arms, if_form, loop_form, repeat_form, statements as spec_list, while_form, with_form};
-ghost use Rattle.m2_base.specs.Views.{case_arm_view, case_else_seen, designator_view, expr_view, if_arm_view, statement_view};
+ghost use Rattle.m2_base.specs.Trees.{case_arms, case_form, for_form, if_arms, if_form, loop_form, repeat_form};
+ghost use Rattle.m2_base.specs.Trees.{statements as spec_list, while_form, with_form};
+ghost use Rattle.m2_base.specs.Views.{case_arm_view, case_else_seen, designator_view, expr_view, if_arm_view};
+ghost use Rattle.m2_base.specs.Views.{statement_view};
 ghost use Rattle.m2_base.specs.Statics.Operands.{is_bad as spec_bad};
 ghost use Rattle.m2_base.specs.Statics.ReadTrees.{IsReadDesignator, IsReadExpr};
 ghost use Rattle.expr_sem.specs.Codings.{IsCoded, coded_in};
@@ -9,11 +11,16 @@ ghost use Rattle.expr_sem.specs.Fragments.{part};
 ghost use Rattle.type_rules.specs.Scenes.{IsThere};
 ghost use Rattle.stmt_sem.specs.FlowNodes.{AreSound, flow_in};
 ghost use Rattle.stmt_sem.specs.Flowings.{Flowing, IsFlow};
-ghost use Rattle.m2_base.specs.Statics.ReadStatements.{AreReadCaseArms, AreReadIfArms, AreReadStatements, IsReadCaseArm, IsReadCaseElse, IsReadExprOption, IsReadIfArm, IsReadStatement};
+ghost use Rattle.m2_base.specs.Statics.ReadStatements.{AreReadCaseArms, AreReadIfArms, AreReadStatements};
+ghost use Rattle.m2_base.specs.Statics.ReadStatements.{IsReadCaseArm, IsReadCaseElse, IsReadExprOption, IsReadIfArm};
+ghost use Rattle.m2_base.specs.Statics.ReadStatements.{IsReadStatement};
 ghost use Rattle.stmt_sem.specs.Stands.{IsStand, names_of, stand_in};
-ghost use Rattle.stmt_sem.specs.Stated.{AreArms, AreFlows, IsArm, IsCase, IsOther, arm_in, arms_in, block_in, case_in, cases_in, other_in};
-ghost use Rattle.stmt_sem.specs.StatementParts.{case_of as spec_case, form_of, otherwise as spec_otherwise, statements_onto, with_body as spec_with};
-ghost use Rattle.stmt_sem.specs.Statements.{arm_flow, arms_flow, case_flow, cases_flow, else_flow, flow_of, statement_flow};
+ghost use Rattle.stmt_sem.specs.Stated.{AreArms, AreFlows, IsArm, IsCase, IsOther, arm_in, arms_in, block_in, case_in};
+ghost use Rattle.stmt_sem.specs.Stated.{cases_in, other_in};
+ghost use Rattle.stmt_sem.specs.StatementParts.{case_of as spec_case, form_of, otherwise as spec_otherwise};
+ghost use Rattle.stmt_sem.specs.StatementParts.{statements_onto, with_body as spec_with};
+ghost use Rattle.stmt_sem.specs.Statements.{arm_flow, arms_flow, case_flow, cases_flow, else_flow, flow_of};
+ghost use Rattle.stmt_sem.specs.Statements.{statement_flow};
 ghost use Rattle.stmt_sem.specs.Taken.{IsSelector};
 ghost use Rattle.stmt_sem.specs.Walkers.{Keeps, Walks, frame_of, nodes_of};
 
@@ -55,7 +62,8 @@ impl<S: Scopes> Walker<'_, S> {
         requires sound { AreSound self.old.flows.now }
         requires read { IsReadStatement (names_of stand.now) (statement_view of.now) }
         ensures keeps { Keeps self.old self.new }
-        ensures walks { Walks S.state self.old self.new stand.now result IsFlow flow_in (λ s. statement_flow s (statement_view of.now)) }
+        ensures walks { Walks S.state self.old self.new stand.now result IsFlow flow_in
+            (λ s. statement_flow s (statement_view of.now)) }
     {
         match &of.form {
             StmtForm::Assign { to, value } => { self.assign_statement(stand, to, value) }
@@ -95,7 +103,8 @@ impl<S: Scopes> Walker<'_, S> {
         requires sound { AreSound self.old.flows.now }
         requires read { AreReadStatements (names_of stand.now) (spec_list (map statement_view body.now)) }
         ensures keeps { Keeps self.old self.new }
-        ensures walks { Walks S.state self.old self.new stand.now result AreFlows block_in (λ s. statements_onto s (λ rest. rest) (spec_list (map statement_view body.now))) }
+        ensures walks { Walks S.state self.old self.new stand.now result AreFlows block_in
+            (λ s. statements_onto s (λ rest. rest) (spec_list (map statement_view body.now))) }
     {
         let mut made = Vec::new(*self.flows.nodes.allocator());
         for of in body.iter() {
@@ -117,7 +126,8 @@ impl<S: Scopes> Walker<'_, S> {
         requires sound { AreSound self.old.flows.now }
         requires read { AreReadStatements (names_of stand.now) (spec_list (map statement_view body.now)) }
         ensures keeps { Keeps self.old self.new }
-        ensures walks { Walks S.state self.old self.new stand.now result IsFlow flow_in (λ s. flow_of s (spec_list (map statement_view body.now))) }
+        ensures walks { Walks S.state self.old self.new stand.now result IsFlow flow_in
+            (λ s. flow_of s (spec_list (map statement_view body.now))) }
     {
         let made = analysed!(self.statements_made(stand, body));
         answered(self.flows.block(made))
@@ -130,7 +140,8 @@ impl<S: Scopes> Walker<'_, S> {
         requires sound { AreSound self.old.flows.now }
         requires read { AreReadStatements (names_of stand.now) (spec_list (map statement_view body.now)) }
         ensures keeps { Keeps self.old self.new }
-        ensures walks { Walks S.state self.old self.new stand.now result IsOther other_in (λ s. spec_otherwise s (spec_list (map statement_view body.now))) }
+        ensures walks { Walks S.state self.old self.new stand.now result IsOther other_in
+            (λ s. spec_otherwise s (spec_list (map statement_view body.now))) }
     {
         if body.is_empty() {
             return Ok(Ask::Known(None));
@@ -146,7 +157,8 @@ impl<S: Scopes> Walker<'_, S> {
         requires sound { AreSound self.old.flows.now }
         requires read { IsReadIfArm (names_of stand.now) (if_arm_view arm.now) }
         ensures keeps { Keeps self.old self.new }
-        ensures walks { Walks S.state self.old self.new stand.now result IsArm arm_in (λ s. arm_flow s (if_arm_view arm.now)) }
+        ensures walks { Walks S.state self.old self.new stand.now result IsArm arm_in
+            (λ s. arm_flow s (if_arm_view arm.now)) }
     {
         let holds = analysed!(self.test(stand, &arm.test));
         let body = analysed!(self.statements(stand, &arm.body));
@@ -163,7 +175,8 @@ impl<S: Scopes> Walker<'_, S> {
         requires sound { AreSound self.old.flows.now }
         requires read { AreReadIfArms (names_of stand.now) (if_arms (map if_arm_view arms.now)) }
         ensures keeps { Keeps self.old self.new }
-        ensures walks { Walks S.state self.old self.new stand.now result AreArms arms_in (λ s. arms_flow s (if_arms (map if_arm_view arms.now))) }
+        ensures walks { Walks S.state self.old self.new stand.now result AreArms arms_in
+            (λ s. arms_flow s (if_arms (map if_arm_view arms.now))) }
     {
         let mut made = Vec::new(*self.flows.nodes.allocator());
         for arm in arms.iter() {
@@ -186,7 +199,8 @@ impl<S: Scopes> Walker<'_, S> {
         requires arms { AreReadIfArms (names_of stand.now) (if_arms (map if_arm_view arms.now)) }
         requires other { AreReadStatements (names_of stand.now) (spec_list (map statement_view other.now)) }
         ensures keeps { Keeps self.old self.new }
-        ensures walks { Walks S.state self.old self.new stand.now result IsFlow flow_in (λ s. form_of s (if_form (if_arms (map if_arm_view arms.now)) (spec_list (map statement_view other.now)))) }
+        ensures walks { Walks S.state self.old self.new stand.now result IsFlow flow_in (λ s.
+            form_of s (if_form (if_arms (map if_arm_view arms.now)) (spec_list (map statement_view other.now)))) }
     {
         let made = analysed!(self.if_arms_made(stand, arms));
         let rest = analysed!(self.otherwise(stand, other));
@@ -200,7 +214,8 @@ impl<S: Scopes> Walker<'_, S> {
         requires sound { AreSound self.old.flows.now }
         requires read { AreReadStatements (names_of stand.now) (spec_list (map statement_view body.now)) }
         ensures keeps { Keeps self.old self.new }
-        ensures walks { Walks S.state self.old self.new stand.now result IsFlow flow_in (λ s. form_of s (loop_form (spec_list (map statement_view body.now)))) }
+        ensures walks { Walks S.state self.old self.new stand.now result IsFlow flow_in
+            (λ s. form_of s (loop_form (spec_list (map statement_view body.now)))) }
     {
         let within = Stand {
             looped: true,
@@ -224,7 +239,8 @@ impl<S: Scopes> Walker<'_, S> {
         requires of { IsThere (frame_of S.state self.old) of }
         requires read { IsReadCaseArm (names_of stand.now) (case_arm_view arm.now) }
         ensures keeps { Keeps self.old self.new }
-        ensures walks { Walks S.state self.old self.new stand.now result IsCase case_in (λ s. case_flow s of covered (case_arm_view arm.now)) }
+        ensures walks { Walks S.state self.old self.new stand.now result IsCase case_in
+            (λ s. case_flow s of covered (case_arm_view arm.now)) }
     {
         let coverage = Coverage { of, covered };
         let labels = analysed!(case_labels(
@@ -257,7 +273,8 @@ impl<S: Scopes> Walker<'_, S> {
         requires of { IsThere (frame_of S.state self.old) of }
         requires arms { AreReadCaseArms (names_of stand.now) (case_arms (map case_arm_view arms.now)) }
         ensures keeps { Keeps self.old self.new }
-        ensures walks { Walks S.state self.old self.new stand.now result AreArms cases_in (λ s. cases_flow s of [] (case_arms (map case_arm_view arms.now))) }
+        ensures walks { Walks S.state self.old self.new stand.now result AreArms cases_in
+            (λ s. cases_flow s of [] (case_arms (map case_arm_view arms.now))) }
     {
         let alloc = *self.flows.nodes.allocator();
         let mut made = Vec::new(alloc);
@@ -281,7 +298,8 @@ impl<S: Scopes> Walker<'_, S> {
         requires sound { AreSound self.old.flows.now }
         requires other { IsReadCaseElse (names_of stand.now) (case_else_seen other.now) }
         ensures keeps { Keeps self.old self.new }
-        ensures walks { Walks S.state self.old self.new stand.now result IsFlow flow_in (λ s. else_flow s (case_else_seen other.now)) }
+        ensures walks { Walks S.state self.old self.new stand.now result IsFlow flow_in
+            (λ s. else_flow s (case_else_seen other.now)) }
     {
         match other {
             None => no_case_else(self.flows),
@@ -304,7 +322,9 @@ impl<S: Scopes> Walker<'_, S> {
         requires arms { AreReadCaseArms (names_of stand.now) (case_arms (map case_arm_view arms.now)) }
         requires other { IsReadCaseElse (names_of stand.now) (case_else_seen other.now) }
         ensures keeps { Keeps self.old self.new }
-        ensures walks { Walks S.state self.old self.new stand.now result IsFlow flow_in (λ s. spec_case s (part (nodes_of self.old) x.value) x.of (case_arms (map case_arm_view arms.now)) (case_else_seen other.now)) }
+        ensures walks { Walks S.state self.old self.new stand.now result IsFlow flow_in
+            (λ s. spec_case s (part (nodes_of self.old) x.value) x.of (case_arms (map case_arm_view arms.now))
+            (case_else_seen other.now)) }
     {
         let made = analysed!(self.case_arms_made(stand, x.of, arms));
         let rest = analysed!(self.case_else(stand, other));
@@ -326,7 +346,8 @@ impl<S: Scopes> Walker<'_, S> {
         requires arms { AreReadCaseArms (names_of stand.now) (case_arms (map case_arm_view arms.now)) }
         requires other { IsReadCaseElse (names_of stand.now) (case_else_seen other.now) }
         ensures keeps { Keeps self.old self.new }
-        ensures walks { Walks S.state self.old self.new stand.now result IsFlow flow_in (λ s. form_of s (case_form (expr_view value.now) (case_arms (map case_arm_view arms.now)) (case_else_seen other.now))) }
+        ensures walks { Walks S.state self.old self.new stand.now result IsFlow flow_in (λ s. form_of s
+            (case_form (expr_view value.now) (case_arms (map case_arm_view arms.now)) (case_else_seen other.now))) }
     {
         let x = analysed!(self.selector(stand, value));
         self.case_of(stand, x, arms, other)
@@ -345,7 +366,8 @@ impl<S: Scopes> Walker<'_, S> {
         requires holds { IsReadExpr (names_of stand.now) (expr_view holds.now) }
         requires read { AreReadStatements (names_of stand.now) (spec_list (map statement_view body.now)) }
         ensures keeps { Keeps self.old self.new }
-        ensures walks { Walks S.state self.old self.new stand.now result IsFlow flow_in (λ s. form_of s (while_form (expr_view holds.now) (spec_list (map statement_view body.now)))) }
+        ensures walks { Walks S.state self.old self.new stand.now result IsFlow flow_in
+            (λ s. form_of s (while_form (expr_view holds.now) (spec_list (map statement_view body.now)))) }
     {
         let code = analysed!(self.test(stand, holds));
         let inner = analysed!(self.statements(stand, body));
@@ -365,7 +387,8 @@ impl<S: Scopes> Walker<'_, S> {
         requires read { AreReadStatements (names_of stand.now) (spec_list (map statement_view body.now)) }
         requires holds { IsReadExpr (names_of stand.now) (expr_view holds.now) }
         ensures keeps { Keeps self.old self.new }
-        ensures walks { Walks S.state self.old self.new stand.now result IsFlow flow_in (λ s. form_of s (repeat_form (spec_list (map statement_view body.now)) (expr_view holds.now))) }
+        ensures walks { Walks S.state self.old self.new stand.now result IsFlow flow_in
+            (λ s. form_of s (repeat_form (spec_list (map statement_view body.now)) (expr_view holds.now))) }
     {
         let inner = analysed!(self.statements(stand, body));
         let code = analysed!(self.test(stand, holds));
@@ -389,7 +412,9 @@ impl<S: Scopes> Walker<'_, S> {
         requires by { IsReadExprOption (names_of stand.now) (option_map expr_view limits.now.by.now) }
         requires read { AreReadStatements (names_of stand.now) (spec_list (map statement_view body.now)) }
         ensures keeps { Keeps self.old self.new }
-        ensures walks { Walks S.state self.old self.new stand.now result IsFlow flow_in (λ s. form_of s (for_form name (expr_view limits.now.first.now) (expr_view limits.now.last.now) (option_map expr_view limits.now.by.now) (spec_list (map statement_view body.now)))) }
+        ensures walks { Walks S.state self.old self.new stand.now result IsFlow flow_in
+            (λ s. form_of s (for_form name (expr_view limits.now.first.now) (expr_view limits.now.last.now)
+            (option_map expr_view limits.now.by.now) (spec_list (map statement_view body.now)))) }
     {
         let x = analysed!(self.control_variable(stand, name));
         let first = analysed!(self.check_bound(stand, x, limits.first));
@@ -419,7 +444,8 @@ impl<S: Scopes> Walker<'_, S> {
         requires good { spec_bad x.operand ≡ false }
         requires read { AreReadStatements (names_of stand.now) (spec_list (map statement_view body.now)) }
         ensures keeps { Keeps self.old self.new }
-        ensures walks { Walks S.state self.old self.new stand.now result IsFlow flow_in (λ s. spec_with s (coded_in (nodes_of self.old) x) (spec_list (map statement_view body.now))) }
+        ensures walks { Walks S.state self.old self.new stand.now result IsFlow flow_in
+            (λ s. spec_with s (coded_in (nodes_of self.old) x) (spec_list (map statement_view body.now))) }
     {
         let withs = opened(stand.withs, operand_type(&x.operand), self.flows)?;
         let within = Stand {
@@ -443,7 +469,8 @@ impl<S: Scopes> Walker<'_, S> {
         requires x { IsCoded (frame_of S.state self.old) (nodes_of self.old) x }
         requires read { AreReadStatements (names_of stand.now) (spec_list (map statement_view body.now)) }
         ensures keeps { Keeps self.old self.new }
-        ensures walks { Walks S.state self.old self.new stand.now result IsFlow flow_in (λ s. spec_with s (coded_in (nodes_of self.old) x) (spec_list (map statement_view body.now))) }
+        ensures walks { Walks S.state self.old self.new stand.now result IsFlow flow_in
+            (λ s. spec_with s (coded_in (nodes_of self.old) x) (spec_list (map statement_view body.now))) }
     {
         if is_bad(x.operand) {
             let inner = analysed!(self.statements(stand, body));
@@ -465,15 +492,16 @@ impl<S: Scopes> Walker<'_, S> {
         requires of { IsReadDesignator (names_of stand.now) (designator_view of.now) }
         requires read { AreReadStatements (names_of stand.now) (spec_list (map statement_view body.now)) }
         ensures keeps { Keeps self.old self.new }
-        ensures walks { Walks S.state self.old self.new stand.now result IsFlow flow_in (λ s. form_of s (with_form (designator_view of.now) (spec_list (map statement_view body.now)))) }
+        ensures walks { Walks S.state self.old self.new stand.now result IsFlow flow_in
+            (λ s. form_of s (with_form (designator_view of.now) (spec_list (map statement_view body.now)))) }
     {
         let x = analysed!(self.record_of(stand, of));
         self.with_body(stand, x, body)
     }
 }
 
-/// A statement where it stands: its code as a flow, for which further fragments and flows are added to `flows`. What is
-/// wrong is noted in text order, and what is in error has no code. It waits where the first of its parts does.
+/// A statement where it stands: its code as a flow, for which further fragments and flows are added to `flows`. What
+/// is wrong is noted in text order, and what is in error has no code. It waits where the first of its parts does.
 pub fn statement<S: Scopes>(
     scopes: &mut S,
     stand: &Stand,
@@ -484,7 +512,8 @@ pub fn statement<S: Scopes>(
     requires stand { IsStand (S.state scopes.old).frame stand.now }
     requires sound { AreSound flows.old }
     requires read { IsReadStatement (names_of stand.now) (statement_view of.now) }
-    ensures { Flowing (S.state scopes.old) (S.state scopes.new) notes.old notes.new flows.old flows.new stand.now.site.now result IsFlow flow_in (λ c. statement_flow (stand_in c stand.now) (statement_view of.now)) }
+    ensures { Flowing (S.state scopes.old) (S.state scopes.new) notes.old notes.new flows.old flows.new
+        stand.now.site.now result IsFlow flow_in (λ c. statement_flow (stand_in c stand.now) (statement_view of.now)) }
 {
     let mut walker = Walker {
         scopes,

@@ -40,7 +40,8 @@ fn is_boolean<S: Scopes>(scopes: &mut S, site: &Site, operand: Operand) -> Ask<b
     ensures reads { Reads (S.state scopes.old) (S.state scopes.new) }
     ensures waits { WhereWaiting result (λ head. Waits (S.state scopes.old) (S.state scopes.new) head) }
     ensures told { WhereTold (S.state scopes.old).frame (λ made.
-        WhereKnown result (λ holds. holds ≡ spec_boolean (context_of (S.state scopes.old).frame made site.now) operand)) }
+        WhereKnown result
+        (λ holds. holds ≡ spec_boolean (context_of (S.state scopes.old).frame made site.now) operand)) }
 {
     let base = known!(base_of(scopes, site.around, operand_type(&operand)));
     Ask::Known(base == BOOLEAN)
@@ -53,7 +54,8 @@ fn refused_test(
     fragments: &mut Fragments,
     notes: &mut Notes,
 ) -> Result<Ask<Fragment>, Memory>
-    ensures { (state : State) → Coding state state notes.old notes.new fragments.old.nodes.items fragments.new.nodes.items site.now result IsFragment part (λ c. refuse c at not_boolean spec_false) }
+    ensures { (state : State) → Coding state state notes.old notes.new fragments.old.nodes.items
+        fragments.new.nodes.items site.now result IsFragment part (λ c. refuse c at not_boolean spec_false) }
 {
     let _none = analysed!(refused_code(site, at, Diagnostic::NotBoolean, notes));
     answered(false_code(fragments))
@@ -66,7 +68,9 @@ impl<S: Scopes> Walker<'_, S> {
         requires x { IsCoded (frame_of S.state self.old) (nodes_of self.old) x.coded }
         ensures keeps { Keeps self.old self.new }
         ensures nodes { KeepsNodes self.old self.new }
-        ensures codes { Codes S.state self.old self.new stand.now result IsFragment part (λ s. if spec_boolean s.context x.coded.operand then gives (spec_value_code s.context (coded_in (nodes_of self.old) x.coded)) else refuse s.context x.at not_boolean spec_false) }
+        ensures codes { Codes S.state self.old self.new stand.now result IsFragment part
+            (λ s. if spec_boolean s.context x.coded.operand then gives (spec_value_code s.context
+            (coded_in (nodes_of self.old) x.coded)) else refuse s.context x.at not_boolean spec_false) }
     {
         let boolean = asked!(is_boolean(self.scopes, stand.site, x.coded.operand));
         if boolean {
@@ -81,7 +85,8 @@ impl<S: Scopes> Walker<'_, S> {
         requires x { IsCoded (frame_of S.state self.old) (nodes_of self.old) x.coded }
         ensures keeps { Keeps self.old self.new }
         ensures nodes { KeepsNodes self.old self.new }
-        ensures codes { Codes S.state self.old self.new stand.now result IsFragment part (λ s. spec_test s.context x.at (coded_in (nodes_of self.old) x.coded)) }
+        ensures codes { Codes S.state self.old self.new stand.now result IsFragment part
+            (λ s. spec_test s.context x.at (coded_in (nodes_of self.old) x.coded)) }
     {
         if is_bad(x.coded.operand) {
             return answered(false_code(&mut self.flows.fragments));

@@ -61,7 +61,9 @@ pub fn top_statement<S: Scopes>(
     requires sound { AreSound flows.old }
     requires read { IsReadStatement site.now.texts.now.names (statement_view top.now.of.now) }
     requires there { IfSome top.now.result (λ t. IsThere (S.state scopes.old).frame t) }
-    ensures { Flowing (S.state scopes.old) (S.state scopes.new) notes.old notes.new flows.old flows.new site.now result IsFlow flow_in (λ c. statement_flow (at_first (in_statements c) top.now.result) (statement_view top.now.of.now)) }
+    ensures { Flowing (S.state scopes.old)
+        (S.state scopes.new) notes.old notes.new flows.old flows.new site.now result IsFlow flow_in
+        (λ c. statement_flow (at_first (in_statements c) top.now.result) (statement_view top.now.of.now)) }
 {
     let texts = site.texts;
     let alloc = *texts.order.allocator();
@@ -104,7 +106,8 @@ pub fn state<S: Scopes>(
     requires read { AreReadStatements site.now.texts.now.names (stream_view stream.now).body }
     requires returns { Returns (S.state scopes.old).frame site.now (stream_view stream.now) from.result }
     requires there { IfSome from.result (λ t. IsThere (S.state scopes.old).frame t) }
-    ensures { Stating (S.state scopes.old) (S.state scopes.new) site.now (stream_view stream.now) index (spot_at from.cell from.byte) result }
+    ensures { Stating (S.state scopes.old) (S.state scopes.new) site.now (stream_view stream.now) index
+        (spot_at from.cell from.byte) result }
 {
     let texts = site.texts;
     let alloc = *texts.order.allocator();

@@ -27,7 +27,8 @@ fn is_record<S: Scopes>(scopes: &mut S, around: &Around, of: Place) -> Ask<bool>
     ensures reads { Reads (S.state scopes.old) (S.state scopes.new) }
     ensures waits { WhereWaiting result (λ head. Waits (S.state scopes.old) (S.state scopes.new) head) }
     ensures told { WhereTold (S.state scopes.old).frame (λ made.
-        WhereKnown result (λ holds. holds ≡ spec_record (kind_of (scene_of (S.state scopes.old).frame made around.now) of))) }
+        WhereKnown result
+        (λ holds. holds ≡ spec_record (kind_of (scene_of (S.state scopes.old).frame made around.now) of))) }
 {
     let (_, meaning) = known!(stand(scopes, around, of));
     Ask::Known(matches!(meaning, RowMeaning::Record(..)))
@@ -41,7 +42,9 @@ fn record_or_refused(
     x: Coded,
     notes: &mut Notes,
 ) -> Result<Ask<Coded>, Memory>
-    ensures { (state : State) (nodes : List Node) → IsCoded state.frame nodes x → Coding state state notes.old notes.new nodes nodes site.now result IsCoded coded_in (λ c. if holds then gives (coded_in nodes x) else refuse c at not_a_record in_error) }
+    ensures { (state : State) (nodes : List Node) → IsCoded state.frame nodes x
+        → Coding state state notes.old notes.new nodes nodes site.now result IsCoded coded_in
+        (λ c. if holds then gives (coded_in nodes x) else refuse c at not_a_record in_error) }
 {
     if holds {
         Ok(Ask::Known(x))
@@ -60,7 +63,9 @@ pub fn record_variable<S: Scopes>(
 ) -> Result<Ask<Coded>, Memory>
     requires suits { SuitsSite (S.state scopes.old).frame site.now }
     requires x { IsOperand (S.state scopes.old).frame x.operand }
-    ensures { (nodes : List Node) → IsCoded (S.state scopes.old).frame nodes x → Coding (S.state scopes.old) (S.state scopes.new) notes.old notes.new nodes nodes site.now result IsCoded coded_in (λ c. spec_variable c at (coded_in nodes x)) }
+    ensures { (nodes : List Node) → IsCoded (S.state scopes.old).frame nodes x
+        → Coding (S.state scopes.old) (S.state scopes.new) notes.old notes.new nodes nodes site.now result IsCoded
+        coded_in (λ c. spec_variable c at (coded_in nodes x)) }
 {
     if is_bad(x.operand) {
         return Ok(Ask::Known(x));
