@@ -29,14 +29,14 @@ use Rattle.expr_sem.specs.Pieces.{Appended, extend}
 use Rattle.expr_sem.specs.declared.pieces.Piece.{Piece}
 use Rattle.stmt_sem.specs.BlockCode.{body_of, ending, first_cell, first_spot, in_statements, prologue, run_of, size_by, size_diags, stand_of}
 use Rattle.stmt_sem.specs.Bodies.{Adding, Built, IsAdded, IsBuilt, IsWhole, Whole, given_in, left, rest_from, whole_in, whole_of}
-use Rattle.stmt_sem.specs.FlowNodes.{flow_in}
+use Rattle.expr_sem.specs.declared.fragments.Node.{Node}
+use Rattle.stmt_sem.specs.FlowTrees.{flow_in}
 use Rattle.stmt_sem.specs.Flowings.{Flowing, IsFlow}
 use Rattle.stmt_sem.specs.Flows.{Flow, Run, part_at, straight, ◌⨾◌}
 use Rattle.stmt_sem.specs.Stands.{at_first}
 use Rattle.stmt_sem.specs.Statements.{flow_of, statement_flow}
 use Rattle.stmt_sem.specs.Stating.{Returns, block_at, given_at, made_in, spot_at, statement_at}
 use Rattle.stmt_sem.specs.declared.flows.Flow.{Flow as FlowOf}
-use Rattle.stmt_sem.specs.declared.flows.Flows.{Flows}
 use Rattle.stmt_sem.proofs.PiecesJoined.{made_behind}
 use Rattle.stmt_sem.proofs.Still.{Still, statement-still}
 use Rattle.stmt_sem.proofs.TopStatements.{answers_shown, none_in_hand}
@@ -148,7 +148,7 @@ module _ (c : Context) (tree : Stream) (e : BlockEffects) where
 
 -- ---- a statement is analysed, and put behind the others
 
-module _ {a b : State} {x y : Notes} {f1 f2 : Flows} {s : Site} (tree : Stream) (from : Built) where
+module _ {a b : State} {x y : Notes} {f1 f2 : List Node} {s : Site} (tree : Stream) (from : Built) where
   -- nothing was added, since memory was wanted
   pub unadded : {answer : Result (Ask FlowOf) Memory} {g : Context → Gives Flow} → Flowing a b x y f1 f2 s answer IsFlow flow_in g → (to : Built) → to ≡ from
       → (r : Result (Ask (Unit {0})) Memory) → IsErr r → Adding a b from to s tree r

@@ -19,33 +19,28 @@ use Rattle.type_rules.proofs.Compatibles.{told_later}
 use Rattle.const_eval.proofs.Folding.{folded, folded_more}
 use Rattle.expr_sem.specs.Codings.{Coding}
 use Rattle.expr_sem.specs.declared.fragments.Node.{Node}
-use Rattle.stmt_sem.specs.FlowNodes.{AreSound, CellFlow, Grows, IsFlowMade, flow_in}
+use Rattle.expr_sem.specs.Fragments.{AreSound, Grows}
+use Rattle.expr_sem.proofs.Sequencing.{Grows-refl, Grows-trans}
+use Rattle.stmt_sem.specs.FlowTrees.{CellFlow, MadeBy, flow_in}
 use Rattle.stmt_sem.specs.Flowings.{Flowing, IsFlow}
 use Rattle.stmt_sem.specs.Flows as flow
 use Rattle.stmt_sem.specs.Stands.{IsStand}
 use Rattle.stmt_sem.specs.Stated.{answer_of}
 use Rattle.stmt_sem.specs.declared.flows.Flow.{Flow}
-use Rattle.stmt_sem.specs.declared.flows.Flows.{Flows}
 use Rattle.stmt_sem.specs.declared.stands.Stand.{Stand}
-use Rattle.stmt_sem.proofs.FlowsKept.{Grows-refl, Grows-trans, grown}
 
--- what is said of fragments, said of flows
-abbrev pub among_fragments : {T : Type 0} → (Frame → List Node → T → Type 0) → Frame → Flows → T → Type 0
-among_fragments P f fs v = P f fs.fragments.nodes.items v
-
-abbrev pub with_fragments : {T V : Type 0} → (List Node → T → V) → Flows → T → (cell : ℕ) → V
-with_fragments as_p fs v cell = as_p fs.fragments.nodes.items v
+-- the same whatever the cell is
+abbrev pub any_cell : {T V : Type 0} → (List Node → T → V) → List Node → T → (cell : ℕ) → V
+any_cell as_p ns v cell = as_p ns v
 
 -- code alone
-pub of_coding : {T V : Type 0} {a b : State} {x y : Notes} {s : Site} {P : Frame → List Node → T → Type 0} {as_p : List Node → T → V} {g : Context → Gives V} {from to : Flows} (answer : Result (Ask T) Memory)
-    → Coding a b x y from.fragments.nodes.items to.fragments.nodes.items s answer P as_p g → to.nodes.items ≡ from.nodes.items → Flowing a b x y from to s answer (among_fragments P) (with_fragments as_p) g
-of_coding (Ok (Known v)) p e =
-    record { works = p.works; waits = tt; grows = grown p.grows e; told = λ made in_hand told of_site cell. p.told made in_hand told of_site; there = p.there }
-of_coding (Ok (DontKnowYet h)) p e =
-    record { works = p.works; waits = p.waits; grows = grown p.grows e; told = λ made in_hand told of_site. tt; there = tt }
-of_coding (Err m) p e = record { works = p.works; waits = tt; grows = grown p.grows e; told = λ made in_hand told of_site. tt; there = tt }
+pub of_coding : {T V : Type 0} {a b : State} {x y : Notes} {from to : List Node} {s : Site} {P : Frame → List Node → T → Type 0} {as_p : List Node → T → V} {g : Context → Gives V} (answer : Result (Ask T) Memory)
+    → Coding a b x y from to s answer P as_p g → Flowing a b x y from to s answer P (any_cell as_p) g
+of_coding (Ok (Known v)) p = record { works = p.works; waits = tt; grows = p.grows; told = λ made in_hand told of_site cell. p.told made in_hand told of_site; there = p.there }
+of_coding (Ok (DontKnowYet h)) p = record { works = p.works; waits = p.waits; grows = p.grows; told = λ made in_hand told of_site. tt; there = tt }
+of_coding (Err m) p = record { works = p.works; waits = tt; grows = p.grows; told = λ made in_hand told of_site. tt; there = tt }
 
-module _ {T U V W : Type 0} {a b : State} {x y : Notes} {f1 f2 : Flows} {s : Site} {P : Frame → Flows → T → Type 0} {Q : Frame → Flows → U → Type 0} {as_p : Flows → T → (cell : ℕ) → V} {as_q : Flows → U → (cell : ℕ) → W} {g : Context → Gives V} {h : Context → Gives W} where
+module _ {T U V W : Type 0} {a b : State} {x y : Notes} {f1 f2 : List Node} {s : Site} {P : Frame → List Node → T → Type 0} {Q : Frame → List Node → U → Type 0} {as_p : List Node → T → (cell : ℕ) → V} {as_q : List Node → U → (cell : ℕ) → W} {g : Context → Gives V} {h : Context → Gives W} where
   -- after want of memory nothing more is said
   pub unmade : {m : Memory} → Flowing a b x y f1 f2 s (Err m) P as_p g → (n : Memory) → Flowing a b x y f1 f2 s (Err n) Q as_q h
   unmade p n = record { works = p.works; waits = tt; grows = p.grows; told = λ made in_hand told of_site. tt; there = tt }
@@ -58,21 +53,21 @@ module _ {T U V W : Type 0} {a b : State} {x y : Notes} {f1 f2 : Flows} {s : Sit
   pub full_after : {v : T} → Flowing a b x y f1 f2 s (Ok (Known v)) P as_p g → (n : Memory) → Flowing a b x y f1 f2 s (Err n) Q as_q h
   full_after p n = record { works = p.works; waits = tt; grows = p.grows; told = λ made in_hand told of_site. tt; there = tt }
 
-module _ {T U V W : Type 0} {a b d : State} {x y z : Notes} {f1 f2 f3 : Flows} {s : Site} {P : Frame → Flows → T → Type 0} {Q : Frame → Flows → U → Type 0} {as_p : Flows → T → (cell : ℕ) → V} {as_q : Flows → U → (cell : ℕ) → W} {g : Context → Gives V} {h : Context → Gives W} {first : Result (Ask T) Memory} where
+module _ {T U V W : Type 0} {a b d : State} {x y z : Notes} {f1 f2 f3 : List Node} {s : Site} {P : Frame → List Node → T → Type 0} {Q : Frame → List Node → U → Type 0} {as_p : List Node → T → (cell : ℕ) → V} {as_q : List Node → U → (cell : ℕ) → W} {g : Context → Gives V} {h : Context → Gives W} {first : Result (Ask T) Memory} where
   -- after want of memory in a later step nothing more is said
-  pub unmade_after : {m : Memory} {R X : Type 0} {S : Frame → Flows → R → Type 0} {as_r : Flows → R → (cell : ℕ) → X} {k : Context → Gives X} → Flowing a b x y f1 f2 s first P as_p g → Flowing b d y z f2 f3 s (Err m) Q as_q h → (n : Memory) → Flowing a d x z f1 f3 s (Err n) S as_r k
+  pub unmade_after : {m : Memory} {R X : Type 0} {S : Frame → List Node → R → Type 0} {as_r : List Node → R → (cell : ℕ) → X} {k : Context → Gives X} → Flowing a b x y f1 f2 s first P as_p g → Flowing b d y z f2 f3 s (Err m) Q as_q h → (n : Memory) → Flowing a d x z f1 f3 s (Err n) S as_r k
   unmade_after p q n = record { works = Works-trans p.works q.works; waits = tt; grows = Grows-trans p.grows q.grows; told = λ made in_hand told of_site. tt; there = tt }
 
   -- memory was wanted behind a known later step
-  pub full_after_both : {w : U} {R X : Type 0} {S : Frame → Flows → R → Type 0} {as_r : Flows → R → (cell : ℕ) → X} {k : Context → Gives X} → Flowing a b x y f1 f2 s first P as_p g → Flowing b d y z f2 f3 s (Ok (Known w)) Q as_q h → (n : Memory) → Flowing a d x z f1 f3 s (Err n) S as_r k
+  pub full_after_both : {w : U} {R X : Type 0} {S : Frame → List Node → R → Type 0} {as_r : List Node → R → (cell : ℕ) → X} {k : Context → Gives X} → Flowing a b x y f1 f2 s first P as_p g → Flowing b d y z f2 f3 s (Ok (Known w)) Q as_q h → (n : Memory) → Flowing a d x z f1 f3 s (Err n) S as_r k
   full_after_both p q n = record { works = Works-trans p.works q.works; waits = tt; grows = Grows-trans p.grows q.grows; told = λ made in_hand told of_site. tt; there = tt }
 
   -- what isn't known yet of a later step isn't known yet of the whole
-  pub unknown_after : {head : Head} {R X : Type 0} {S : Frame → Flows → R → Type 0} {as_r : Flows → R → (cell : ℕ) → X} {k : Context → Gives X} → Flowing a b x y f1 f2 s first P as_p g → Flowing b d y z f2 f3 s (Ok (DontKnowYet head)) Q as_q h → Flowing a d x z f1 f3 s (Ok (DontKnowYet head)) S as_r k
+  pub unknown_after : {head : Head} {R X : Type 0} {S : Frame → List Node → R → Type 0} {as_r : List Node → R → (cell : ℕ) → X} {k : Context → Gives X} → Flowing a b x y f1 f2 s first P as_p g → Flowing b d y z f2 f3 s (Ok (DontKnowYet head)) Q as_q h → Flowing a d x z f1 f3 s (Ok (DontKnowYet head)) S as_r k
   unknown_after p q =
       record { works = Works-trans p.works q.works; waits = Waits_after p.works.keeps q.waits; grows = Grows-trans p.grows q.grows; told = λ made in_hand told of_site. tt; there = tt }
 
-module _ {T V : Type 0} {a b : State} {x y : Notes} {f1 f2 : Flows} {s : Site} {P : Frame → Flows → T → Type 0} {as_p : Flows → T → (cell : ℕ) → V} {g h : Context → Gives V} where
+module _ {T V : Type 0} {a b : State} {x y : Notes} {f1 f2 : List Node} {s : Site} {P : Frame → List Node → T → Type 0} {as_p : List Node → T → (cell : ℕ) → V} {g h : Context → Gives V} where
   -- the same, of another description
   pub described : (answer : Result (Ask T) Memory) → Flowing a b x y f1 f2 s answer P as_p g → ((c : Context) → g c ≡ h c) → Flowing a b x y f1 f2 s answer P as_p h
   described answer p e =
@@ -84,7 +79,7 @@ module _ {T V : Type 0} {a b : State} {x y : Notes} {f1 f2 : Flows} {s : Site} {
         there = p.there;
       }
 
-module _ {T V : Type 0} {a b : State} {x y : Notes} {f1 f2 : Flows} {s : Site} {P : Frame → Flows → T → Type 0} {as_p : Flows → T → (cell : ℕ) → V} {g : Context → Gives V} {answer : Result (Ask T) Memory} (p : Flowing a b x y f1 f2 s answer P as_p g) where
+module _ {T V : Type 0} {a b : State} {x y : Notes} {f1 f2 : List Node} {s : Site} {P : Frame → List Node → T → Type 0} {as_p : List Node → T → (cell : ℕ) → V} {g : Context → Gives V} {answer : Result (Ask T) Memory} (p : Flowing a b x y f1 f2 s answer P as_p g) where
   -- what could stand before can stand after
   pub holds_after : (Q : Frame → Type 0) → Q a.frame → Q b.frame
   holds_after Q h = subst Q (sym p.works.keeps.frame) h
@@ -99,36 +94,36 @@ module _ {T V : Type 0} {a b : State} {x y : Notes} {f1 f2 : Flows} {s : Site} {
   sound_after h = p.grows.sound h
 
 -- what may stand after a flowing: its value
-pub stands_after : {T V : Type 0} {a b : State} {x y : Notes} {f1 f2 : Flows} {s : Site} {P : Frame → Flows → T → Type 0} {as_p : Flows → T → (cell : ℕ) → V} {g : Context → Gives V} {v : T} → Flowing a b x y f1 f2 s (Ok (Known v)) P as_p g → P b.frame f2 v
+pub stands_after : {T V : Type 0} {a b : State} {x y : Notes} {f1 f2 : List Node} {s : Site} {P : Frame → List Node → T → Type 0} {as_p : List Node → T → (cell : ℕ) → V} {g : Context → Gives V} {v : T} → Flowing a b x y f1 f2 s (Ok (Known v)) P as_p g → P b.frame f2 v
 stands_after {T} {V} {a} {b} {x} {y} {f1} {f2} {s} {P} {as_p} {g} {v} p = subst (λ (f : Frame). P f f2 v) (sym p.works.keeps.frame) p.there
 
 -- a value alone
-pub value_alone : {T V : Type 0} (a : State) (n : Notes) (fs : Flows) (s : Site) (v : T) (P : Frame → Flows → T → Type 0) (as_p : Flows → T → (cell : ℕ) → V) (f : Context → V)
-    → P a.frame fs v → ((c : Context) (cell : ℕ) → as_p fs v cell ≡ f c) → Flowing a a n n fs fs s (Ok (Known v)) P as_p (λ c. gives (f c))
-value_alone a n fs s v P as_p f h e =
+pub value_alone : {T V : Type 0} (a : State) (n : Notes) (ns : List Node) (s : Site) (v : T) (P : Frame → List Node → T → Type 0) (as_p : List Node → T → (cell : ℕ) → V) (f : Context → V)
+    → P a.frame ns v → ((c : Context) (cell : ℕ) → as_p ns v cell ≡ f c) → Flowing a a n n ns ns s (Ok (Known v)) P as_p (λ c. gives (f c))
+value_alone a n ns s v P as_p f h e =
     record {
       works = Works-refl a n;
       waits = tt;
-      grows = Grows-refl fs;
-      told = λ made in_hand told of_site cell. subst (λ given. Adds n n (gives given) (as_p fs v cell)) (e (context_of a.frame made s) cell) (Adds-refl n (as_p fs v cell));
+      grows = Grows-refl ns;
+      told = λ made in_hand told of_site cell. subst (λ given. Adds n n (gives given) (as_p ns v cell)) (e (context_of a.frame made s) cell) (Adds-refl n (as_p ns v cell));
       there = h;
     }
 
 -- a flow that is made
-pub made_alone : (a : State) (n : Notes) {from to : Flows} (s : Site) (made : Result Flow Memory) {F : CellFlow} (f : Context → flow.Flow) → IsFlowMade from to made F → ((c : Context) (cell : ℕ) → F cell ≡ f c)
+pub made_alone : (a : State) (n : Notes) {from to : List Node} (s : Site) (made : Result Flow Memory) {F : CellFlow} (f : Context → flow.Flow) → Grows from to → MadeBy to made F → ((c : Context) (cell : ℕ) → F cell ≡ f c)
     → Flowing a a n n from to s (answer_of made) IsFlow flow_in (λ c. gives (f c))
-made_alone a n {from} {to} s (Ok w) f m e =
+made_alone a n {from} {to} s (Ok w) f g m e =
     record {
       works = Works-refl a n;
       waits = tt;
-      grows = m.grows;
-      told = λ made in_hand told of_site cell. subst (λ given. Adds n n (gives given) (flow_in to w cell)) (m.made.flow_is cell ∙ e (context_of a.frame made s) cell) (Adds-refl n (flow_in to w cell));
-      there = m.made.there;
+      grows = g;
+      told = λ made in_hand told of_site cell. subst (λ given. Adds n n (gives given) (flow_in to w cell)) (m.flow_is cell ∙ e (context_of a.frame made s) cell) (Adds-refl n (flow_in to w cell));
+      there = m.there;
     }
-made_alone a n s (Err k) f m e = record { works = Works-refl a n; waits = tt; grows = m.grows; told = λ made in_hand told of_site. tt; there = tt }
+made_alone a n s (Err k) f g m e = record { works = Works-refl a n; waits = tt; grows = g; told = λ made in_hand told of_site. tt; there = tt }
 
 -- an answer that was given of a flow that is made
-pub by_answer : {a b : State} {x y : Notes} {f1 f2 : Flows} {s : Site} {g : Context → Gives flow.Flow} (made : Result Flow Memory) (answer : Result (Ask Flow) Memory) → answer ≡ answer_of made
+pub by_answer : {a b : State} {x y : Notes} {f1 f2 : List Node} {s : Site} {g : Context → Gives flow.Flow} (made : Result Flow Memory) (answer : Result (Ask Flow) Memory) → answer ≡ answer_of made
     → Flowing a b x y f1 f2 s (answer_of made) IsFlow flow_in g → Flowing a b x y f1 f2 s answer IsFlow flow_in g
 by_answer {a} {b} {x} {y} {f1} {f2} {s} {g} made answer e p = subst (λ (r : Result (Ask Flow) Memory). Flowing a b x y f1 f2 s r IsFlow flow_in g) (sym e) p
 
@@ -137,7 +132,7 @@ waits_on d (Ok (Known v)) w h = tt
 waits_on d (Ok (DontKnowYet head)) w h = Waits_after w.keeps h
 waits_on d (Err m) w h = tt
 
-module _ {T U V W : Type 0} {a b d : State} {x y z : Notes} {f1 f2 f3 : Flows} {s : Site} {P : Frame → Flows → T → Type 0} {Q : Frame → Flows → U → Type 0} {as_p : Flows → T → (cell : ℕ) → V} {as_q : Flows → U → (cell : ℕ) → W} (g : Context → Gives V) (h : V → Context → Gives W) where
+module _ {T U V W : Type 0} {a b d : State} {x y z : Notes} {f1 f2 f3 : List Node} {s : Site} {P : Frame → List Node → T → Type 0} {Q : Frame → List Node → U → Type 0} {as_p : List Node → T → (cell : ℕ) → V} {as_q : List Node → U → (cell : ℕ) → W} (g : Context → Gives V) (h : V → Context → Gives W) where
   -- one flowing after another, where the second is the whole's
   pub flowing_after : {v : T} (answer : Result (Ask U) Memory) → Flowing a b x y f1 f2 s (Ok (Known v)) P as_p g → Flowing b d y z f2 f3 s answer Q as_q (h (as_p f2 v 0))
       → Flowing a d x z f1 f3 s answer Q as_q (λ c. and_then (g c) (λ u. h u c))
@@ -158,7 +153,7 @@ module _ {T U V W : Type 0} {a b d : State} {x y z : Notes} {f1 f2 f3 : Flows} {
       both made (Err m) p' q' = tt
 
   -- a value that is made of two, one after the other
-  pub value_after_both : {R X : Type 0} {v : T} {w : U} {f4 : Flows} {S : Frame → Flows → R → Type 0} {as_r : Flows → R → (cell : ℕ) → X} (k : V → W → X) (r : R)
+  pub value_after_both : {R X : Type 0} {v : T} {w : U} {f4 : List Node} {S : Frame → List Node → R → Type 0} {as_r : List Node → R → (cell : ℕ) → X} (k : V → W → X) (r : R)
       → Flowing a b x y f1 f2 s (Ok (Known v)) P as_p g → Flowing b d y z f2 f3 s (Ok (Known w)) Q as_q (h (as_p f2 v 0)) → Grows f3 f4 → S a.frame f4 r
       → ((u : V) (m : W) → ((cell : ℕ) → as_p f2 v cell ≡ u) → ((cell : ℕ) → as_q f3 w cell ≡ m) → (cell : ℕ) → as_r f4 r cell ≡ k u m)
       → Flowing a d x z f1 f4 s (Ok (Known r)) S as_r (λ c. and_then (g c) (λ u. and_then (h u c) (λ m. gives (k u m))))
@@ -181,20 +176,20 @@ module _ {T U V W : Type 0} {a b d : State} {x y z : Notes} {f1 f2 f3 : Flows} {
       }
 
   -- a flow that is made of two values, one after the other
-  pub made_after_both : {v : T} {w : U} {f4 : Flows} {F : CellFlow} (k : V → W → flow.Flow) (made : Result Flow Memory)
-      → Flowing a b x y f1 f2 s (Ok (Known v)) P as_p g → Flowing b d y z f2 f3 s (Ok (Known w)) Q as_q (h (as_p f2 v 0)) → IsFlowMade f3 f4 made F
+  pub made_after_both : {v : T} {w : U} {F : CellFlow} (k : V → W → flow.Flow) (made : Result Flow Memory)
+      → Flowing a b x y f1 f2 s (Ok (Known v)) P as_p g → Flowing b d y z f2 f3 s (Ok (Known w)) Q as_q (h (as_p f2 v 0)) → MadeBy f3 made F
       → ((u : V) (m : W) → ((cell : ℕ) → as_p f2 v cell ≡ u) → ((cell : ℕ) → as_q f3 w cell ≡ m) → (cell : ℕ) → F cell ≡ k u m)
-      → Flowing a d x z f1 f4 s (answer_of made) IsFlow flow_in (λ c. and_then (g c) (λ u. and_then (h u c) (λ m. gives (k u m))))
-  made_after_both k (Ok r) p q m e = value_after_both k r p q m.grows m.made.there (λ u i eu ei cell. m.made.flow_is cell ∙ e u i eu ei cell)
+      → Flowing a d x z f1 f3 s (answer_of made) IsFlow flow_in (λ c. and_then (g c) (λ u. and_then (h u c) (λ m. gives (k u m))))
+  made_after_both k (Ok r) p q m e = value_after_both k r p q (Grows-refl f3) m.there (λ u i eu ei cell. m.flow_is cell ∙ e u i eu ei cell)
   made_after_both k (Err n) p q m e =
-      record { works = Works-trans p.works q.works; waits = tt; grows = Grows-trans (Grows-trans p.grows q.grows) m.grows; told = λ made in_hand told of_site. tt; there = tt }
+      record { works = Works-trans p.works q.works; waits = tt; grows = Grows-trans p.grows q.grows; told = λ made in_hand told of_site. tt; there = tt }
 
-module _ {T V : Type 0} {a b : State} {x y : Notes} {f1 f2 f3 : Flows} {s : Site} {P : Frame → Flows → T → Type 0} {as_p : Flows → T → (cell : ℕ) → V} (g : Context → Gives V) where
+module _ {T V : Type 0} {a b : State} {x y : Notes} {f1 f2 : List Node} {s : Site} {P : Frame → List Node → T → Type 0} {as_p : List Node → T → (cell : ℕ) → V} (g : Context → Gives V) where
   -- a value that is made of one
-  pub value_after : {U W : Type 0} {v : T} {Q : Frame → Flows → U → Type 0} {as_q : Flows → U → (cell : ℕ) → W} (k : V → W) (w : U) → Flowing a b x y f1 f2 s (Ok (Known v)) P as_p g → Grows f2 f3 → Q a.frame f3 w
+  pub value_after : {U W : Type 0} {v : T} {f3 : List Node} {Q : Frame → List Node → U → Type 0} {as_q : List Node → U → (cell : ℕ) → W} (k : V → W) (w : U) → Flowing a b x y f1 f2 s (Ok (Known v)) P as_p g → Grows f2 f3 → Q a.frame f3 w
       → ((u : V) → ((cell : ℕ) → as_p f2 v cell ≡ u) → (cell : ℕ) → as_q f3 w cell ≡ k u)
       → Flowing a b x y f1 f3 s (Ok (Known w)) Q as_q (λ c. and_then (g c) (λ u. gives (k u)))
-  value_after {v = v} {as_q = as_q} k w p grows there e =
+  value_after {v = v} {f3 = f3} {as_q = as_q} k w p grows there e =
       record {
         works = p.works;
         waits = tt;
@@ -209,11 +204,11 @@ module _ {T V : Type 0} {a b : State} {x y : Notes} {f1 f2 f3 : Flows} {s : Site
       }
 
   -- a flow that is made of one
-  pub made_after : {v : T} {F : CellFlow} (k : V → flow.Flow) (made : Result Flow Memory) → Flowing a b x y f1 f2 s (Ok (Known v)) P as_p g → IsFlowMade f2 f3 made F
+  pub made_after : {v : T} {F : CellFlow} (k : V → flow.Flow) (made : Result Flow Memory) → Flowing a b x y f1 f2 s (Ok (Known v)) P as_p g → MadeBy f2 made F
       → ((u : V) → ((cell : ℕ) → as_p f2 v cell ≡ u) → (cell : ℕ) → F cell ≡ k u)
-      → Flowing a b x y f1 f3 s (answer_of made) IsFlow flow_in (λ c. and_then (g c) (λ u. gives (k u)))
-  made_after k (Ok w) p m e = value_after k w p m.grows m.made.there (λ u eu cell. m.made.flow_is cell ∙ e u eu cell)
-  made_after k (Err n) p m e = record { works = p.works; waits = tt; grows = Grows-trans p.grows m.grows; told = λ made in_hand told of_site. tt; there = tt }
+      → Flowing a b x y f1 f2 s (answer_of made) IsFlow flow_in (λ c. and_then (g c) (λ u. gives (k u)))
+  made_after k (Ok w) p m e = value_after k w p (Grows-refl f2) m.there (λ u eu cell. m.flow_is cell ∙ e u eu cell)
+  made_after k (Err n) p m e = record { works = p.works; waits = tt; grows = p.grows; told = λ made in_hand told of_site. tt; there = tt }
 
 -- ---- loops over parts of a list
 
@@ -221,9 +216,9 @@ module _ {T V : Type 0} {a b : State} {x y : Notes} {f1 f2 f3 : Flows} {s : Site
 abbrev pub step : {A B C : Type 0} (h : Context → A → B → Gives C) (k : A → C → A) → Context → A → B → Gives A
 step h k c a b = and_then (h c a b) (λ m. gives (k a m))
 
-module _ {A B C T U : Type 0} {P : Frame → Flows → T → Type 0} {Q : Frame → Flows → U → Type 0} {as_p : Flows → T → (cell : ℕ) → A} {as_q : Flows → U → (cell : ℕ) → C} (h : Context → A → B → Gives C) (k : A → C → A) (first : A) (items : List B) (i : ℕ) where
+module _ {A B C T U : Type 0} {P : Frame → List Node → T → Type 0} {Q : Frame → List Node → U → Type 0} {as_p : List Node → T → (cell : ℕ) → A} {as_q : List Node → U → (cell : ℕ) → C} (h : Context → A → B → Gives C) (k : A → C → A) (first : A) (items : List B) (i : ℕ) where
   -- one more item
-  pub one_more : {a b d : State} {x y z : Notes} {f1 f2 f3 : Flows} {s : Site} {v : T} {w : U} (r : T) (item : B) → i < length items → item ≡ get_or items i item
+  pub one_more : {a b d : State} {x y z : Notes} {f1 f2 f3 : List Node} {s : Site} {v : T} {w : U} (r : T) (item : B) → i < length items → item ≡ get_or items i item
       → Flowing a b x y f1 f2 s (Ok (Known v)) P as_p (λ c. folded (step h k c) first (take i items)) → Flowing b d y z f2 f3 s (Ok (Known w)) Q as_q (λ c. h c (as_p f2 v 0) item) → P a.frame f3 r
       → ((u : A) (m : C) → ((cell : ℕ) → as_p f2 v cell ≡ u) → ((cell : ℕ) → as_q f3 w cell ≡ m) → (cell : ℕ) → as_p f3 r cell ≡ k u m)
       → Flowing a d x z f1 f3 s (Ok (Known r)) P as_p (λ c. folded (step h k c) first (take (i + 1) items))
@@ -233,8 +228,8 @@ module _ {A B C T U : Type 0} {P : Frame → Flows → T → Type 0} {Q : Frame 
       (λ c. folded_more (step h k c) first (take i items) item ∙ ap (λ (l : List B). folded (step h k c) first l) longer)
 
 -- all items
-pub whole : {A B C T : Type 0} {P : Frame → Flows → T → Type 0} {as_p : Flows → T → (cell : ℕ) → A} (h : Context → A → B → Gives C) (k : A → C → A) (first : A) (items : List B) (i : ℕ)
-    {a b : State} {x y : Notes} {f1 f2 : Flows} {s : Site} {v : T} (g : Context → Gives A) → length items ≤ i
+pub whole : {A B C T : Type 0} {P : Frame → List Node → T → Type 0} {as_p : List Node → T → (cell : ℕ) → A} (h : Context → A → B → Gives C) (k : A → C → A) (first : A) (items : List B) (i : ℕ)
+    {a b : State} {x y : Notes} {f1 f2 : List Node} {s : Site} {v : T} (g : Context → Gives A) → length items ≤ i
     → Flowing a b x y f1 f2 s (Ok (Known v)) P as_p (λ c. folded (step h k c) first (take i items)) → ((c : Context) → folded (step h k c) first items ≡ g c)
     → Flowing a b x y f1 f2 s (Ok (Known v)) P as_p g
 whole {B = B} h k first items i {v = v} g l p e = described (Ok (Known v)) p (λ c. ap (λ (l : List B). folded (step h k c) first l) (take_all i items l) ∙ e c)

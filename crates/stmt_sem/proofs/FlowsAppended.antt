@@ -18,14 +18,17 @@ use Rattle.stmt_sem.specs.FlowPieces.{AppendedArm, Over, again_part}
 use Rattle.stmt_sem.specs.Flows.{Flow, HasSize, Run, choose, counted, for_ever, in_with, part_at, until_true, when, while_true, with_cell, ◌⨾◌}
 use Rattle.stmt_sem.specs.Statements.{arm_before, flow_or_nothing}
 use Rattle.stmt_sem.specs.Cases.{label_code, more_labels_code}
-use Rattle.stmt_sem.specs.FlowNodes.{AreSound, IsArmOf, IsBefore, arms_among, block_among, choice_among, code_by, flow_in, flows_in, other_among}
-use Rattle.stmt_sem.specs.FlowSizes.{arm_bytes, arms_bytes, block_bytes, flow_bytes, label_bytes}
+use Rattle.expr_sem.specs.Fragments.{AreSound}
+use Rattle.expr_sem.specs.declared.fragments.Node.{Node}
+use Rattle.std.specs.declared.alloc.Global.{Global}
+use Rattle.std.specs.declared.boxed.Box.{Box}
+use Rattle.stmt_sem.specs.FlowTrees.{IsArmOver, IsOver, arms_among, block_among, choice_among, code_by, flow_in, other_among}
+use Rattle.stmt_sem.specs.FlowSizes.{arm_bytes, arms_bytes, block_bytes, label_bytes}
 use Rattle.stmt_sem.specs.declared.flows.Arm.{Arm}
 use Rattle.stmt_sem.specs.declared.flows.Flow.{Flow as FlowOf}
-use Rattle.stmt_sem.specs.declared.flows.Flows.{Flows}
 use Rattle.case_labels.specs.declared.tests.LabelTest.{LabelTest}
 use Rattle.case_labels.specs.Seen.{test_seen}
-use Rattle.stmt_sem.proofs.FlowsSized.{PartHas, arms_measured, arms_over, block_sized, label_sized}
+use Rattle.stmt_sem.proofs.FlowsSized.{PartHas, arms_over, block_sized, label_sized}
 
 -- what is appended, by another name
 pub as_part : {a e : Piece} {ws : List With} (p q : Part) → Appended a e ws p → p (spot_of a ws) ≡ q (spot_of a ws) → Appended a e ws q
@@ -256,6 +259,12 @@ each_drop P zero xs h = h
 each_drop P (suc i) [] h = tt
 each_drop P (suc i) (x ∷ xs) h = each_drop P i xs h.1
 
+-- one of those that all have it has it
+pub each_at : {A : Type 0} (P : A → Type 0) (xs : List A) (i : ℕ) (x : A) → i < length xs → x ≡ get_or xs i x → Each P xs → P x
+each_at P [] i x l e h = absurd (omega (arith, l))
+each_at P (y ∷ xs) zero x l e h = subst P (sym e) h.0
+each_at P (y ∷ xs) (suc i) x l e h = each_at P xs i x (omega (arith, l)) e h.1
+
 -- one more label
 pub label_appended : (a b c d : Piece) (ws : List With) (ls : List LabelTest) (i : ℕ) (x : LabelTest) → i < length ls → x ≡ get_or ls i x → (t : ℕ) (j : ℤ) → j ≡ pos (label_bytes x)
     → ends_as b ws (more_labels_code t (map test_seen (drop i ls))) ≡ ends_as a ws (more_labels_code t (map test_seen ls))
@@ -272,43 +281,41 @@ label_appended a b c d ws ls i x h e t j ej same h1 h2 =
     ∙ same
 
 -- one more entry of a block
-pub entry_appended : (a b c : Piece) (ws : List With) (fs : Flows) → AreSound fs → (xs : List FlowOf) → Each (IsBefore (length fs.nodes.items)) xs
-    → (i : ℕ) (x : FlowOf) → i < length xs → x ≡ get_or xs i x → (out o t : ℕ) → o ≡ out + block_bytes fs (drop (i + 1) xs)
-    → ends_as b ws (part_at out (block_among (flows_in fs) (drop i xs) t)) ≡ ends_as a ws (part_at out (block_among (flows_in fs) xs t))
-    → Appended b c ws (part_at o (flow_in fs x t))
-    → ends_as c ws (part_at out (block_among (flows_in fs) (drop (i + 1) xs) t)) ≡ ends_as a ws (part_at out (block_among (flows_in fs) xs t))
-entry_appended a b c ws fs s xs there i x h e out o t eo same g =
+pub entry_appended : (a b c : Piece) (ws : List With) (ns : List Node) (xs : List FlowOf) → Each (IsOver ns) xs
+    → (i : ℕ) (x : FlowOf) → i < length xs → x ≡ get_or xs i x → (out o t : ℕ) → o ≡ out + block_bytes (drop (i + 1) xs)
+    → ends_as b ws (part_at out (block_among ns (drop i xs) t)) ≡ ends_as a ws (part_at out (block_among ns xs t))
+    → Appended b c ws (part_at o (flow_in ns x t))
+    → ends_as c ws (part_at out (block_among ns (drop (i + 1) xs) t)) ≡ ends_as a ws (part_at out (block_among ns xs t))
+entry_appended a b c ws ns xs there i x h e out o t eo same g =
     let rest = drop (i + 1) xs in
-    let more : ends_as b ws (part_at out (block_among (flows_in fs) (drop i xs) t)) ≡ ends_as b ws (part_at out (block_among (flows_in fs) (x ∷ rest) t)) =
-    at_drop_more (λ (l : List FlowOf). ends_as b ws (part_at out (block_among (flows_in fs) l t))) xs i x h
-    ∙ ap (λ (y : FlowOf). ends_as b ws (part_at out (block_among (flows_in fs) (y ∷ rest) t))) (sym e) in
-    block_ended out (block_bytes fs rest) (flow_in fs x t) (block_among (flows_in fs) rest t) (block_sized fs s rest (each_drop (IsBefore (length fs.nodes.items)) (i + 1) xs there) t)
-    (subst (λ (k : ℕ). Appended b c ws (part_at k (flow_in fs x t))) eo g)
+    let more : ends_as b ws (part_at out (block_among ns (drop i xs) t)) ≡ ends_as b ws (part_at out (block_among ns (x ∷ rest) t)) =
+    at_drop_more (λ (l : List FlowOf). ends_as b ws (part_at out (block_among ns l t))) xs i x h
+    ∙ ap (λ (y : FlowOf). ends_as b ws (part_at out (block_among ns (y ∷ rest) t))) (sym e) in
+    block_ended out (block_bytes rest) (flow_in ns x t) (block_among ns rest t) (block_sized ns rest (each_drop (IsOver ns) (i + 1) xs there) t)
+    (subst (λ (k : ℕ). Appended b c ws (part_at k (flow_in ns x t))) eo g)
     ∙ sym more ∙ same
 
 -- the bytes of an entry
-pub entry_bytes : (fs : Flows) (xs : List FlowOf) (i : ℕ) (x : FlowOf) → i < length xs → x ≡ get_or xs i x → block_bytes fs (drop i xs) ≡ flow_bytes fs x + block_bytes fs (drop (i + 1) xs)
-entry_bytes fs xs i x h e = at_drop_more (block_bytes fs) xs i x h ∙ ap (λ (y : FlowOf). block_bytes fs (y ∷ drop (i + 1) xs)) (sym e)
+pub entry_bytes : (xs : List FlowOf) (i : ℕ) (x : FlowOf) → i < length xs → x ≡ get_or xs i x → block_bytes (drop i xs) ≡ x.size + block_bytes (drop (i + 1) xs)
+entry_bytes xs i x h e = at_drop_more block_bytes xs i x h ∙ ap (λ (y : FlowOf). block_bytes (y ∷ drop (i + 1) xs)) (sym e)
 
-pub arm_at : (fs : Flows) (xs : List Arm) (i : ℕ) (x : Arm) → i < length xs → x ≡ get_or xs i x → arms_bytes fs (drop i xs) ≡ arm_bytes fs x + arms_bytes fs (drop (i + 1) xs)
-arm_at fs xs i x h e = at_drop_more (arms_bytes fs) xs i x h ∙ ap (λ (y : Arm). arms_bytes fs (y ∷ drop (i + 1) xs)) (sym e)
+pub arm_at : (ns : List Node) (xs : List Arm) (i : ℕ) (x : Arm) → i < length xs → x ≡ get_or xs i x → arms_bytes ns (drop i xs) ≡ arm_bytes ns x + arms_bytes ns (drop (i + 1) xs)
+arm_at ns xs i x h e = at_drop_more (arms_bytes ns) xs i x h ∙ ap (λ (y : Arm). arms_bytes ns (y ∷ drop (i + 1) xs)) (sym e)
 
 -- one more arm
-pub arm_appended : (a b c : Piece) (ws : List With) (fs : Flows) → AreSound fs → (xs : List Arm) → Each (IsArmOf fs.fragments.nodes.items (length fs.nodes.items)) xs
-    → (i : ℕ) (x : Arm) → i < length xs → x ≡ get_or xs i x → (other : Option FlowOf) (out left k t : ℕ) → left ≡ arms_bytes fs (drop (i + 1) xs) + k → ((u : ℕ) → Over (other_among (flows_in fs) other u) k)
-    → ends_as b ws (part_at out (choice_among fs.fragments.nodes.items (flows_in fs) (drop i xs) other t)) ≡ ends_as a ws (part_at out (choice_among fs.fragments.nodes.items (flows_in fs) xs other t))
-    → AppendedArm b c ws out left (code_by fs.fragments.nodes.items x.test t) (flow_in fs x.body t)
-    → ends_as c ws (part_at out (choice_among fs.fragments.nodes.items (flows_in fs) (drop (i + 1) xs) other t)) ≡ ends_as a ws (part_at out (choice_among fs.fragments.nodes.items (flows_in fs) xs other t))
-arm_appended a b c ws fs s xs there i x h e other out left k t el o same g =
-    let ns = fs.fragments.nodes.items in
+pub arm_appended : (a b c : Piece) (ws : List With) (ns : List Node) → AreSound ns → (xs : List Arm) → Each (IsArmOver ns) xs
+    → (i : ℕ) (x : Arm) → i < length xs → x ≡ get_or xs i x → (other : Option (Box FlowOf Global)) (out left k t : ℕ) → left ≡ arms_bytes ns (drop (i + 1) xs) + k → ((u : ℕ) → Over (other_among ns other u) k)
+    → ends_as b ws (part_at out (choice_among ns (drop i xs) other t)) ≡ ends_as a ws (part_at out (choice_among ns xs other t))
+    → AppendedArm b c ws out left (code_by ns x.test t) (flow_in ns x.body t)
+    → ends_as c ws (part_at out (choice_among ns (drop (i + 1) xs) other t)) ≡ ends_as a ws (part_at out (choice_among ns xs other t))
+arm_appended a b c ws ns s xs there i x h e other out left k t el o same g =
     let rest = drop (i + 1) xs in
-    let left_there = each_drop (IsArmOf ns (length fs.nodes.items)) (i + 1) xs there in
-    let more : ends_as b ws (part_at out (choice_among ns (flows_in fs) (drop i xs) other t)) ≡ ends_as b ws (part_at out (choice_among ns (flows_in fs) (x ∷ rest) other t)) =
-    at_drop_more (λ (l : List Arm). ends_as b ws (part_at out (choice_among ns (flows_in fs) l other t))) xs i x h
-    ∙ ap (λ (y : Arm). ends_as b ws (part_at out (choice_among ns (flows_in fs) (y ∷ rest) other t))) (sym e) in
-    g (arms_among ns (flows_in fs) rest t (other_among (flows_in fs) other t))
-    (subst (λ (n : ℕ). Over (arms_among ns (flows_in fs) rest t (other_among (flows_in fs) other t)) n) (sym el)
-    (arms_over fs s rest left_there (arms_measured fs s rest left_there) (other_among (flows_in fs) other t) k t (o t)))
+    let more : ends_as b ws (part_at out (choice_among ns (drop i xs) other t)) ≡ ends_as b ws (part_at out (choice_among ns (x ∷ rest) other t)) =
+    at_drop_more (λ (l : List Arm). ends_as b ws (part_at out (choice_among ns l other t))) xs i x h
+    ∙ ap (λ (y : Arm). ends_as b ws (part_at out (choice_among ns (y ∷ rest) other t))) (sym e) in
+    g (arms_among ns rest t (other_among ns other t))
+    (subst (λ (n : ℕ). Over (arms_among ns rest t (other_among ns other t)) n) (sym el)
+    (arms_over ns s rest (each_drop (IsArmOver ns) (i + 1) xs there) (other_among ns other t) k t (o t)))
     ∙ sym more ∙ same
 
 -- what was appended is all

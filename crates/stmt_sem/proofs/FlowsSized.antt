@@ -8,7 +8,9 @@ use Rattle.code_form.specs.Heights.{Step}
 use Rattle.code_form.specs.declared.instr.Instr.{Instr}
 use Rattle.code_form.specs.declared.instr.Instr.TheVariants.{Jump, JumpFalse, Load, Local, Store}
 use Rattle.expr_sem.specs.Fragments as parts
-use Rattle.expr_sem.specs.Fragments.{part}
+use Rattle.expr_sem.specs.Fragments.{AreSound, part}
+use Rattle.std.specs.declared.alloc.Global.{Global}
+use Rattle.std.specs.declared.boxed.Box.{Box}
 use Rattle.expr_sem.specs.Parts.{Part, Spot, plain, plain_step, steps_size, ◌⨟◌}
 use Rattle.expr_sem.proofs.Pushing.{size_append, size_then}
 use Rattle.expr_sem.specs.declared.fragments.Fragment.{Fragment}
@@ -16,9 +18,9 @@ use Rattle.expr_sem.specs.declared.fragments.Fragment.TheVariants.{Nothing as No
 use Rattle.expr_sem.specs.declared.fragments.Node.{Node}
 use Rattle.stmt_sem.specs.Cases.{label_by, label_code, labels_code, more_labels_code}
 use Rattle.case_labels.specs.Seen.{test_seen}
-use Rattle.stmt_sem.specs.FlowNodes.{AreSound, IsArmOf, IsBefore, IsCodeOf, Measures, MeasuresPart, arms_among, block_among, choice_among, code_by, flow_in, flows_in, other_among}
+use Rattle.stmt_sem.specs.FlowTrees.{IsArmOver, IsCodeOf, IsOver, Measures, MeasuresPart, arms_among, block_among, choice_among, code_by, flow_in, other_among}
 use Rattle.stmt_sem.specs.FlowPieces.{Over}
-use Rattle.stmt_sem.specs.FlowSizes.{arms_bytes, block_bytes, flow_bytes, label_bytes, labels_bytes, somewhere}
+use Rattle.stmt_sem.specs.FlowSizes.{arms_bytes, block_bytes, label_bytes, labels_bytes, somewhere}
 use Rattle.stmt_sem.specs.Flows as flow
 use Rattle.stmt_sem.specs.Flows.{HasSize, back, choose, counted, for_ever, nothing, straight, until_true, when, while_true, ◌⨾◌}
 use Rattle.stmt_sem.specs.Statements.{arm_before, flow_or_nothing}
@@ -26,9 +28,6 @@ use Rattle.stmt_sem.specs.declared.flows.Arm.{Arm}
 use Rattle.stmt_sem.specs.declared.flows.Code.{Code}
 use Rattle.stmt_sem.specs.declared.flows.Code.TheVariants.{Fixed, Stored, Compared, Labels}
 use Rattle.stmt_sem.specs.declared.flows.Flow.{Flow}
-use Rattle.stmt_sem.specs.declared.flows.Flow.TheVariants.{Nothing, Node as NodeOf}
-use Rattle.stmt_sem.specs.declared.flows.FlowNode.{FlowNode}
-use Rattle.stmt_sem.specs.declared.flows.Flows.{Flows}
 use Rattle.case_labels.specs.declared.tests.LabelTest.{LabelTest}
 
 -- so many bytes, wherever the part stands
@@ -171,25 +170,9 @@ if_ok P Q (Err m) h f = tt
 
 -- ---- blocks and arms
 
-at_least : {f g n : ℕ} → f ≡ n → g ≡ n → f ≡ g
-at_least a b = a ∙ sym b
-
--- a flow that has a size has this one
-pub flow_sized : (fs : Flows) (x : Flow) (n : ℕ) → Measures (flow_in fs x) n → n ≡ flow_bytes fs x
-flow_sized fs x n h = sym (h 0 somewhere 0)
-
-pub flow_measures : (fs : Flows) → AreSound fs → (x : Flow) → IsBefore (length fs.nodes.items) x → Measures (flow_in fs x) (flow_bytes fs x)
-flow_measures fs s Nothing h t at out = refl
-flow_measures fs s (NodeOf k) h t at out = known fs.nodes.items k h (λ n e. (s.nodes k n e).size t at out ∙ sym ((s.nodes k n e).size 0 somewhere 0))
-  where
-    known : {P : Type 0} (ns : List FlowNode) (k : ℕ) → k < length ns → ((n : FlowNode) → slice_get ns k ≡ Some n → P) → P
-    known [] k h f = absurd (omega (arith, h))
-    known (n ∷ ns) zero h f = f n refl
-    known (n ∷ ns) (suc k) h f = known ns k (omega (arith, h)) f
-
-pub block_sized : (fs : Flows) → AreSound fs → (xs : List Flow) → Each (IsBefore (length fs.nodes.items)) xs → Measures (block_among (flows_in fs) xs) (block_bytes fs xs)
-block_sized fs s [] h t at out = refl
-block_sized fs s (x ∷ xs) h t at out = then_sized (flow_in fs x t) (block_among (flows_in fs) xs t) (flow_measures fs s x h.0 t) (block_sized fs s xs h.1 t) at out
+pub block_sized : (ns : List Node) (xs : List Flow) → Each (IsOver ns) xs → Measures (block_among ns xs) (block_bytes xs)
+block_sized ns [] h t at out = refl
+block_sized ns (x ∷ xs) h t at out = then_sized (flow_in ns x t) (block_among ns xs t) (h.0.1 t) (block_sized ns xs h.1 t) at out
 
 arm_over : (t : Part) (f : flow.Flow) (o : Option flow.Flow) (m n k : ℕ) → PartHas t m → HasSize f n → Over o k → Over (arm_before t f o) (m + 5 + n + 5 + k)
 arm_over t f None m n k a b d = (m + (5 + n), omega (arith, d), when_sized t f a b)
@@ -215,40 +198,28 @@ labels_measures : (ls : List LabelTest) → (n : ℕ) × MeasuresPart (λ t. lab
 labels_measures [] = (9, λ t at. refl)
 labels_measures (l ∷ ls) = (labels_bytes (l ∷ ls) - 5, λ t. labels_sized t (l ∷ ls) (omega arith))
 
-code_measures : (fs : Flows) → AreSound fs → (c : Code) → IsCodeOf fs.fragments.nodes.items c → CodeMeasures fs.fragments.nodes.items c
-code_measures fs s (Fixed f) h = let ns = fs.fragments.nodes.items in (steps_size (part ns f somewhere).code, λ t. fragment_sized ns s.fragments f h)
-code_measures fs s (Stored f) h =
-    let ns = fs.fragments.nodes.items in
+code_measures : (ns : List Node) → AreSound ns → (c : Code) → IsCodeOf ns c → CodeMeasures ns c
+code_measures ns s (Fixed f) h = (steps_size (part ns f somewhere).code, λ t. fragment_sized ns s f h)
+code_measures ns s (Stored f) h =
     let n = steps_size (part ns f somewhere).code in
-    (n + 10, stored_sized ns f n (fragment_sized ns s.fragments f h))
-code_measures fs s (Compared f i) h =
-    let ns = fs.fragments.nodes.items in
+    (n + 10, stored_sized ns f n (fragment_sized ns s f h))
+code_measures ns s (Compared f i) h =
     let n = steps_size (part ns f somewhere).code in
-    (n + 11 + size (plain_step i).instr, compared_sized ns f i n (size (plain_step i).instr) (fragment_sized ns s.fragments f h) refl)
-code_measures fs s (Labels ls) h = labels_measures ls.items
+    (n + 11 + size (plain_step i).instr, compared_sized ns f i n (size (plain_step i).instr) (fragment_sized ns s f h) refl)
+code_measures ns s (Labels ls) h = labels_measures ls.items
 
--- each arm's test has a size
-abbrev pub AreMeasured : List Node → List Arm → Type 0
-AreMeasured ns as' = Each (λ a. (n : ℕ) × MeasuresPart (code_by ns a.test) n) as'
-
-pub arms_over : (fs : Flows) → AreSound fs → (as' : List Arm) → Each (IsArmOf fs.fragments.nodes.items (length fs.nodes.items)) as' → AreMeasured fs.fragments.nodes.items as'
-    → (o : Option flow.Flow) (k t : ℕ) → Over o k → Over (arms_among fs.fragments.nodes.items (flows_in fs) as' t o) (arms_bytes fs as' + k)
-arms_over fs s [] h m o k t d = subst (λ (n : ℕ). Over o n) (omega arith) d
-arms_over fs s (a ∷ as') h m o k t d =
-    let ns = fs.fragments.nodes.items in
-    subst (λ (n : ℕ). Over (arms_among ns (flows_in fs) (a ∷ as') t o) n) (omega arith)
-    (arm_over (code_by ns a.test t) (flow_in fs a.body t) (arms_among ns (flows_in fs) as' t o) (steps_size (code_by ns a.test 0 somewhere).code) (flow_bytes fs a.body) (arms_bytes fs as' + k)
-    (measured (code_by ns a.test) m.0.0 m.0.1 t) (flow_measures fs s a.body h.0.1 t) (arms_over fs s as' h.1 m.1 o k t d))
+pub arms_over : (ns : List Node) → AreSound ns → (arms : List Arm) → Each (IsArmOver ns) arms → (o : Option flow.Flow) (k t : ℕ) → Over o k → Over (arms_among ns arms t o) (arms_bytes ns arms + k)
+arms_over ns s [] h o k t d = subst (λ (n : ℕ). Over o n) (omega arith) d
+arms_over ns s (a ∷ arms) h o k t d =
+    let m = code_measures ns s a.test h.0.0 in
+    subst (λ (n : ℕ). Over (arms_among ns (a ∷ arms) t o) n) (omega arith)
+    (arm_over (code_by ns a.test t) (flow_in ns a.body t) (arms_among ns arms t o) (steps_size (code_by ns a.test 0 somewhere).code) a.body.size (arms_bytes ns arms + k)
+    (measured (code_by ns a.test) m.0 m.1 t) (h.0.1.1 t) (arms_over ns s arms h.1 o k t d))
 
 over_sized : (o : Option flow.Flow) (n : ℕ) → Over o n → HasSize (flow_or_nothing o) (n - 5)
 over_sized None n d = subst (λ (m : ℕ). HasSize nothing m) (omega (arith, d)) (λ at out. refl)
 over_sized (Some f) n d = subst (λ (m : ℕ). HasSize f m) (let e = d.1 in omega (arith, e)) d.2
 
-pub choice_sized : (fs : Flows) → AreSound fs → (as' : List Arm) → Each (IsArmOf fs.fragments.nodes.items (length fs.nodes.items)) as' → AreMeasured fs.fragments.nodes.items as'
-    → (x : Option Flow) (k : ℕ) → ((t : ℕ) → Over (other_among (flows_in fs) x t) k) → Measures (choice_among fs.fragments.nodes.items (flows_in fs) as' x) ((arms_bytes fs as' + k) - 5)
-choice_sized fs s as' h m x k d t = over_sized (arms_among fs.fragments.nodes.items (flows_in fs) as' t (other_among (flows_in fs) x t)) (arms_bytes fs as' + k) (arms_over fs s as' h m (other_among (flows_in fs) x t) k t (d t))
-
--- a code's length is that of its tests
-pub arms_measured : (fs : Flows) → AreSound fs → (as' : List Arm) → Each (IsArmOf fs.fragments.nodes.items (length fs.nodes.items)) as' → AreMeasured fs.fragments.nodes.items as'
-arms_measured fs s [] h = tt
-arms_measured fs s (a ∷ as') h = (code_measures fs s a.test h.0.0, arms_measured fs s as' h.1)
+pub choice_sized : (ns : List Node) → AreSound ns → (arms : List Arm) → Each (IsArmOver ns) arms → (x : Option (Box Flow Global)) (k : ℕ) → ((t : ℕ) → Over (other_among ns x t) k)
+    → Measures (choice_among ns arms x) ((arms_bytes ns arms + k) - 5)
+choice_sized ns s arms h x k d t = over_sized (arms_among ns arms t (other_among ns x t)) (arms_bytes ns arms + k) (arms_over ns s arms h (other_among ns x t) k t (d t))

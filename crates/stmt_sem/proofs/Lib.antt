@@ -8,11 +8,11 @@ pub mod BlockLengths
 pub mod LengthLaw
 pub mod ActionCases
 pub mod LoopCases
-pub mod FlowsKept
-pub mod FlowsPushed
+pub mod FlowsLater
+pub mod FlowRows
+pub mod FlowDepths
 pub mod FlowsSized
 pub mod FlowsAppended
-pub mod FlowRanks
 pub mod Points
 pub mod Still
 pub mod JumpRanges

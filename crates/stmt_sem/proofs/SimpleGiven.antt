@@ -19,14 +19,14 @@ use Rattle.expr_sem.specs.Expressions.{call_alone}
 use Rattle.expr_sem.specs.Fragments.{IsMade}
 use Rattle.expr_sem.specs.Parts.{Part}
 use Rattle.stmt_sem.specs.Assignments.{code_unless_bad}
-use Rattle.stmt_sem.specs.FlowNodes.{flow_in}
+use Rattle.expr_sem.specs.declared.fragments.Node.{Node}
+use Rattle.expr_sem.proofs.Sequencing.{Grows-refl}
+use Rattle.stmt_sem.specs.FlowTrees.{IsFlowOf, flow_in}
 use Rattle.stmt_sem.specs.Flowings.{Flowing, IsFlow}
 use Rattle.stmt_sem.specs.Flows.{nothing, straight}
 use Rattle.stmt_sem.specs.StatementParts.{called, form_of}
 use Rattle.stmt_sem.specs.Statements.{Stand}
-use Rattle.stmt_sem.specs.declared.flows.Flow.TheVariants.{Nothing}
-use Rattle.stmt_sem.specs.declared.flows.Flows.{Flows}
-use Rattle.stmt_sem.proofs.FlowsKept.{Grows-refl, grown}
+use Rattle.stmt_sem.specs.declared.flows.Flow.{Flow}
 
 -- ---- what they make of their code
 
@@ -37,32 +37,32 @@ module _ (s : Stand) where
 -- ---- refusals
 
 -- a diagnostic at a token of the site's text, and no code
-pub refused_flow : (a : State) (x y : Notes) (fs : Flows) (s : Site) (at code : ℕ) → y.answers.items ≡ x.answers.items → y.diags.items ≡ x.diags.items ++ record { text = s.around.now.text; at = at; code = code } ∷ []
-    → Flowing a a x y fs fs s (Ok (Known Nothing)) IsFlow flow_in (λ c. refuse c at code nothing)
-refused_flow a x y fs s at code answers diags =
+pub refused_flow : (a : State) (x y : Notes) (ns : List Node) (s : Site) (at code : ℕ) (none : Flow) → IsFlowOf ns none (λ t. nothing) → y.answers.items ≡ x.answers.items → y.diags.items ≡ x.diags.items ++ record { text = s.around.now.text; at = at; code = code } ∷ []
+    → Flowing a a x y ns ns s (Ok (Known none)) IsFlow flow_in (λ c. refuse c at code nothing)
+refused_flow a x y ns s at code none empty answers diags =
     record {
       works = Works-notes a x y answers (record { rest = record { text = s.around.now.text; at = at; code = code } ∷ []; joined = sym diags });
       waits = tt;
-      grows = Grows-refl fs;
-      told = λ made in_hand told of_site cell. record { value_is = refl; diags = diags; answers = answers ∙ (Adds-refl x nothing).answers };
-      there = tt;
+      grows = Grows-refl ns;
+      told = λ made in_hand told of_site cell. record { value_is = empty.flow_is cell; diags = diags; answers = answers ∙ (Adds-refl x nothing).answers };
+      there = empty.there;
     }
 
-module _ {T V : Type 0} {P : Frame → Flows → T → Type 0} {as_p : Flows → T → (cell : ℕ) → V} {g : Context → Gives V} where
+module _ {T V : Type 0} {P : Frame → List Node → T → Type 0} {as_p : List Node → T → (cell : ℕ) → V} {g : Context → Gives V} where
   -- memory was wanted for a diagnostic
-  pub not_noted : (a : State) (x y : Notes) (fs : Flows) (s : Site) (r : Result (Ask T) Memory) → IsErr r → y.answers.items ≡ x.answers.items → y.diags.items ≡ x.diags.items → Flowing a a x y fs fs s r P as_p g
-  not_noted a x y fs s (Ok v) h answers diags = absurd (cc)
-  not_noted a x y fs s (Err m) h answers diags =
+  pub not_noted : (a : State) (x y : Notes) (ns : List Node) (s : Site) (r : Result (Ask T) Memory) → IsErr r → y.answers.items ≡ x.answers.items → y.diags.items ≡ x.diags.items → Flowing a a x y ns ns s r P as_p g
+  not_noted a x y ns s (Ok v) h answers diags = absurd (cc)
+  not_noted a x y ns s (Err m) h answers diags =
       record {
         works = Works-notes a x y answers (subst (λ (l : List Diag). IsPrefixOf x.diags.items l) (sym diags) (IsPrefixOf-refl x.diags.items));
         waits = tt;
-        grows = Grows-refl fs;
+        grows = Grows-refl ns;
         told = λ made in_hand told of_site. tt;
         there = tt;
       }
 
   -- memory was wanted for a fragment
-  pub fragment_wanted : (a : State) (n : Notes) {from to : Flows} (s : Site) {m : Memory} {p : Part} (r : Result (Ask T) Memory) → IsErr r → IsMade from.fragments.nodes.items to.fragments.nodes.items (Err m) p
-      → to.nodes.items ≡ from.nodes.items → Flowing a a n n from to s r P as_p g
-  fragment_wanted a n s (Ok v) is h e = absurd (cc)
-  fragment_wanted a n s (Err k) is h e = record { works = Works-refl a n; waits = tt; grows = grown h.grows e; told = λ made in_hand told of_site. tt; there = tt }
+  pub fragment_wanted : (a : State) (n : Notes) {from to : List Node} (s : Site) {m : Memory} {p : Part} (r : Result (Ask T) Memory) → IsErr r → IsMade from to (Err m) p
+      → Flowing a a n n from to s r P as_p g
+  fragment_wanted a n s (Ok v) is h = absurd (cc)
+  fragment_wanted a n s (Err k) is h = record { works = Works-refl a n; waits = tt; grows = h.grows; told = λ made in_hand told of_site. tt; there = tt }

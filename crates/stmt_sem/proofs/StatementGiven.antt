@@ -19,12 +19,15 @@ use Rattle.const_eval.proofs.Analysing.{and_then_assoc}
 use Rattle.const_eval.proofs.Folding.{and_then_same}
 use Rattle.code_form.specs.declared.instr.Instr.TheVariants.{Local, Store}
 use Rattle.expr_sem.specs.Coded.{Coded}
-use Rattle.expr_sem.specs.Fragments.{IsIn, part}
+use Rattle.expr_sem.specs.Fragments.{Grows, IsIn, part}
+use Rattle.expr_sem.specs.declared.fragments.Node.{Node}
+use Rattle.expr_sem.proofs.Sequencing.{in_later, part_later}
+use Rattle.std.specs.declared.boxed.Box.{Box}
 use Rattle.expr_sem.specs.Parts.{Part, none, plain, ◌⨟◌}
 use Rattle.expr_sem.specs.declared.fragments.Fragment.{Fragment}
 use Rattle.stmt_sem.specs.Cases.{selector_type, selector_value}
 use Rattle.stmt_sem.specs.Counting.{bound_value, control_variable, or_one}
-use Rattle.stmt_sem.specs.FlowNodes.{AreSound, Grows, IsAmong, choice_among, flow_in, flows_in}
+use Rattle.stmt_sem.specs.FlowTrees.{IsOver, arms_or, choice_among, flow_in}
 use Rattle.stmt_sem.specs.Flows as flow
 use Rattle.stmt_sem.specs.Flows.{for_ever, in_with, nothing, straight, until_true, while_true, with_cell, ◌⨾◌}
 use Rattle.stmt_sem.specs.Stated.{IsArm, arm_in, arms_in, cases_in, other_in}
@@ -34,9 +37,8 @@ use Rattle.stmt_sem.specs.Withs.{record_variable}
 use Rattle.stmt_sem.specs.declared.flows.Arm.{Arm}
 use Rattle.stmt_sem.specs.declared.flows.Code.TheVariants.{Fixed}
 use Rattle.stmt_sem.specs.declared.flows.Flow.{Flow}
-use Rattle.stmt_sem.specs.declared.flows.Flows.{Flows}
-use Rattle.stmt_sem.proofs.FlowLists.{arms_in_later, in_later, part_later}
-use Rattle.stmt_sem.proofs.FlowsKept.{flow_later}
+use Rattle.stmt_sem.proofs.FlowLists.{arms_in_later}
+use Rattle.stmt_sem.proofs.FlowsLater.{flow_later}
 use Rattle.stmt_sem.proofs.StatementFolds.{otherwise_given}
 
 -- ---- forms
@@ -110,38 +112,38 @@ some_else view (x ∷ xs) f e = refl
 
 -- ---- flows of two parts, the first of which was made before the second
 
-module _ {from to : Flows} (g : Grows from to) (code : Fragment) (body : Flow) (there : IsIn from.fragments.nodes.items code) (u : Part) (m : flow.Flow) (eu : (cell : ℕ) → part from.fragments.nodes.items code ≡ u) (em : (cell : ℕ) → flow_in to body cell ≡ m) where
+module _ {from to : List Node} (g : Grows from to) (code : Fragment) (body : Flow) (there : IsIn from code) (u : Part) (m : flow.Flow) (eu : (cell : ℕ) → part from code ≡ u) (em : (cell : ℕ) → flow_in to body cell ≡ m) where
   pub arm_same : (cell : ℕ) → arm_in to (record { test = Fixed code; body = body }) cell ≡ arm_before u m
   arm_same cell = ap (λ (p : Part). arm_before p (flow_in to body cell)) (part_later g code there ∙ eu cell) ∙ ap (λ (f : flow.Flow). arm_before u f) (em cell)
 
-  pub while_same : (cell : ℕ) → while_true (part to.fragments.nodes.items code) (flow_in to body cell) ≡ while_true u m
+  pub while_same : (cell : ℕ) → while_true (part to code) (flow_in to body cell) ≡ while_true u m
   while_same cell = ap (λ (p : Part). while_true p (flow_in to body cell)) (part_later g code there ∙ eu cell) ∙ ap (λ (f : flow.Flow). while_true u f) (em cell)
 
-module _ {from to : Flows} (s : AreSound from) (g : Grows from to) where
-  pub choice_same : (f : Frame) (made : Vec Arm Global) (rest : Option Flow) → Each (IsArm f from) made.items → (u : Option flow.Flow → Option flow.Flow) (m : Option flow.Flow)
-      → ((cell : ℕ) → arms_in from made cell ≡ u) → ((cell : ℕ) → other_in to rest cell ≡ m) → (cell : ℕ) → choice_among to.fragments.nodes.items (flows_in to) made.items rest cell ≡ flow_or_nothing (u m)
+module _ {from to : List Node} (g : Grows from to) where
+  pub choice_same : (f : Frame) (made : Vec Arm Global) (rest : Option (Box Flow Global)) → Each (IsArm f from) made.items → (u : Option flow.Flow → Option flow.Flow) (m : Option flow.Flow)
+      → ((cell : ℕ) → arms_in from made cell ≡ u) → ((cell : ℕ) → other_in to rest cell ≡ m) → (cell : ℕ) → choice_among to made.items rest cell ≡ flow_or_nothing (u m)
   choice_same f made rest h u m eu em cell =
-      ap flow_or_nothing (arms_in_later s g f made h cell (other_in to rest cell) ∙ ap (λ (k : Option flow.Flow → Option flow.Flow). k (other_in to rest cell)) (eu cell) ∙ ap u (em cell))
+      ap flow_or_nothing (arms_in_later g f made h cell (other_in to rest cell) ∙ ap (λ (k : Option flow.Flow → Option flow.Flow). k (other_in to rest cell)) (eu cell) ∙ ap u (em cell))
 
-  pub case_same : {before : Flows} → Grows before from → (value : Fragment) → IsIn before.fragments.nodes.items value → (f : Frame) (made : Vec Arm Global) (rest : Flow) → Each (IsArm f from) made.items → (u : ℕ → flow.Flow → flow.Flow) (m : flow.Flow)
+  pub case_same : {before : List Node} → Grows before from → (value : Fragment) → IsIn before value → (f : Frame) (made : Vec Arm Global) (rest : Flow) → Each (IsArm f from) made.items → (u : ℕ → flow.Flow → flow.Flow) (m : flow.Flow)
       → ((cell : ℕ) → cases_in from made cell ≡ u) → ((cell : ℕ) → flow_in to rest cell ≡ m)
-      → stored_before (part to.fragments.nodes.items value) (choice_among to.fragments.nodes.items (flows_in to) made.items (Some rest)) ≡ stored_before (part before.fragments.nodes.items value) (λ t. u t m)
+      → stored_before (part to value) (arms_or to made.items (flow_in to rest)) ≡ stored_before (part before value) (λ t. u t m)
   case_same {before} b value there f made rest h u m eu em =
-      ap (λ (p : Part). stored_before p (choice_among to.fragments.nodes.items (flows_in to) made.items (Some rest))) (part_later g value (in_later b value there) ∙ part_later b value there)
-      ∙ ap (λ (k : ℕ → flow.Flow). stored_before (part before.fragments.nodes.items value) k) (fun_ext (λ t.
-      ap flow_or_nothing (arms_in_later s g f made h t (Some (flow_in to rest t)))
+      ap (λ (p : Part). stored_before p (arms_or to made.items (flow_in to rest))) (part_later g value (in_later b value there) ∙ part_later b value there)
+      ∙ ap (λ (k : ℕ → flow.Flow). stored_before (part before value) k) (fun_ext (λ t.
+      ap flow_or_nothing (arms_in_later g f made h t (Some (flow_in to rest t)))
       ∙ ap (λ (k : ℕ → flow.Flow → flow.Flow). k t (flow_in to rest t)) (eu t)
       ∙ ap (u t) (em t)))
 
 -- the body before the test
-pub until_same : (fs : Flows) {from : Flows} (g : Grows from fs) (code : Fragment) (body : Flow) → AreSound from → IsAmong from body → (u : flow.Flow) (m : Part) → ((cell : ℕ) → flow_in from body cell ≡ u) → ((cell : ℕ) → part fs.fragments.nodes.items code ≡ m)
-    → (cell : ℕ) → until_true (flow_in fs body cell) (part fs.fragments.nodes.items code) ≡ until_true u m
-until_same fs g code body s there u m eu em cell =
-    ap (λ (f : flow.Flow). until_true f (part fs.fragments.nodes.items code)) (flow_later s g body there cell ∙ eu cell) ∙ ap (λ (p : Part). until_true u p) (em cell)
+pub until_same : (ns : List Node) {from : List Node} (g : Grows from ns) (code : Fragment) (body : Flow) → IsOver from body → (u : flow.Flow) (m : Part) → ((cell : ℕ) → flow_in from body cell ≡ u) → ((cell : ℕ) → part ns code ≡ m)
+    → (cell : ℕ) → until_true (flow_in ns body cell) (part ns code) ≡ until_true u m
+until_same ns g code body there u m eu em cell =
+    ap (λ (f : flow.Flow). until_true f (part ns code)) (flow_later g body there cell ∙ eu cell) ∙ ap (λ (p : Part). until_true u p) (em cell)
 
 -- the statements in a WITH of a record
-pub with_same : {from to : Flows} → Grows from to → (code : Fragment) (body : Flow) → IsIn from.fragments.nodes.items code → (m : flow.Flow) → ((cell : ℕ) → flow_in to body cell ≡ m)
-    → stored_before (part to.fragments.nodes.items code) (λ t. in_with t (flow_in to body t)) ≡ stored_before (part from.fragments.nodes.items code) (λ t. in_with t m)
+pub with_same : {from to : List Node} → Grows from to → (code : Fragment) (body : Flow) → IsIn from code → (m : flow.Flow) → ((cell : ℕ) → flow_in to body cell ≡ m)
+    → stored_before (part to code) (λ t. in_with t (flow_in to body t)) ≡ stored_before (part from code) (λ t. in_with t m)
 with_same {from} {to} g code body there m em =
     ap (λ (p : Part). stored_before p (λ t. in_with t (flow_in to body t))) (part_later g code there)
-    ∙ ap (λ (k : ℕ → flow.Flow). stored_before (part from.fragments.nodes.items code) (λ t. in_with t (k t))) (fun_ext em)
+    ∙ ap (λ (k : ℕ → flow.Flow). stored_before (part from code) (λ t. in_with t (k t))) (fun_ext em)

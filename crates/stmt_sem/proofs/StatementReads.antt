@@ -1,5 +1,5 @@
 -- What is read of a statement is read of its parts, and its parts are smaller.
-use Rattle.std.proofs.Common.{◌≡◌, ℕ, zero, suc, ◌<◌, List, [], ◌∷◌, Option, Some, None, map, refl, sym, subst, arith, length}
+use Rattle.std.proofs.Common.{◌≡◌, ◌+◌, ◌-◌, ℕ, zero, suc, ◌<◌, List, [], ◌∷◌, Option, Some, None, map, refl, sym, subst, arith, length}
 use Rattle.std.specs.Prelude.{get_or}
 use Rattle.std.specs.declared.alloc.Global.{Global}
 use Rattle.std.specs.declared.vec.Vec.{Vec}
@@ -84,6 +84,10 @@ for_smaller s name first last by body e = grind (arith, size_is-Statement, sized
 
 pub with_smaller : (s : Statement) (of : Designator) (body : Vec Statement Global) → s.form ≡ With of body → most size-Statement body.items < size-Statement s
 with_smaller s of body e = grind (arith, size_is-Statement, sized-With)
+
+-- the greater one
+abbrev pub greater : ℕ → ℕ → ℕ
+greater a b = a + (b - a)
 
 -- the statements behind ELSE of a CASE, if it has one
 abbrev pub rest_size : Option (Vec Statement Global) → ℕ

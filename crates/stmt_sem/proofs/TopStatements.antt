@@ -25,7 +25,9 @@ use Rattle.type_rules.specs.Sites.{AreOfItem, AreOfSite, context_of, source_of}
 use Rattle.expr_sem.specs.Parts.{Spot}
 use Rattle.expr_sem.specs.declared.pieces.Piece.{Piece}
 use Rattle.stmt_sem.specs.BlockCode.{in_statements}
-use Rattle.stmt_sem.specs.FlowNodes.{flow_in}
+use Rattle.expr_sem.specs.declared.fragments.Node.{Node}
+use Rattle.expr_sem.proofs.Sequencing.{Grows-refl}
+use Rattle.stmt_sem.specs.FlowTrees.{flow_in}
 use Rattle.stmt_sem.specs.Flowings.{Flowing, IsFlow}
 use Rattle.stmt_sem.specs.Flows as flow
 use Rattle.stmt_sem.specs.Flows.{part_at}
@@ -34,8 +36,6 @@ use Rattle.stmt_sem.specs.Stands.{at_first}
 use Rattle.stmt_sem.specs.Statements.{statement_flow}
 use Rattle.stmt_sem.specs.Stating.{IsStated, Returns, Stating, given_at, made_in, statement_at}
 use Rattle.stmt_sem.specs.declared.flows.Flow.{Flow}
-use Rattle.stmt_sem.proofs.FlowsKept.{Grows-refl}
-use Rattle.stmt_sem.specs.declared.flows.Flows.{Flows}
 use Rattle.stmt_sem.specs.declared.top_statements.Stated.{Stated}
 
 -- ---- the statement of a number
@@ -63,12 +63,12 @@ pub answers_shown : (looks : List Look) (xs ys zs : List Answer) → xs ≡ [] �
 answers_shown looks xs ys zs none e h = subst (λ l. Each (IsAmong looks) l) (sym (e ∙ ap (λ l. l ++ zs) none)) h
 
 -- nothing was begun, since memory was wanted
-pub unbegun : (a : State) (n : Notes) (fs : Flows) (s : Site) (h : Context → Gives flow.Flow) (r : Result (Ask Flow) Memory) → IsErr r → Flowing a a n n fs fs s r IsFlow flow_in h
-unbegun a n fs s h (Ok v) e = absurd (false≢true e)
-unbegun a n fs s h (Err m) e = record { works = Works-refl a n; waits = tt; grows = Grows-refl fs; told = λ made in_hand told of_site. tt; there = tt }
+pub unbegun : (a : State) (n : Notes) (ns : List Node) (s : Site) (h : Context → Gives flow.Flow) (r : Result (Ask Flow) Memory) → IsErr r → Flowing a a n n ns ns s r IsFlow flow_in h
+unbegun a n ns s h (Ok v) e = absurd (false≢true e)
+unbegun a n ns s h (Err m) e = record { works = Works-refl a n; waits = tt; grows = Grows-refl ns; told = λ made in_hand told of_site. tt; there = tt }
 
 -- what is analysed without a layout is that of statements, whatever the layout is
-pub without_layout : {a b : State} {x y : Notes} {f1 f2 : Flows} {v : Result (Ask Flow) Memory} (s t : Site) (r : Option Place) (st : Statement) → s.item ≡ None
+pub without_layout : {a b : State} {x y : Notes} {f1 f2 : List Node} {v : Result (Ask Flow) Memory} (s t : Site) (r : Option Place) (st : Statement) → s.item ≡ None
     → t.texts.now ≡ s.texts.now → t.around.now ≡ s.around.now → t.layout.now ≡ no_layout → t.item ≡ None
     → Flowing a b x y f1 f2 t v IsFlow flow_in (λ c. statement_flow (at_first c r) st)
     → Flowing a b x y f1 f2 s v IsFlow flow_in (λ c. statement_flow (at_first (in_statements c) r) st)
@@ -85,9 +85,9 @@ without_layout {a} {b} {x} {y} {f1} {f2} {v} s t r st alone texts around layout 
       there = p.there;
     }
 
-module _ {a b : State} {x y : Notes} {f1 f2 : Flows} {s : Site} (tree : Stream) (k : ℕ) (at : Spot) where
+module _ {a b : State} {x y : Notes} {f1 f2 : List Node} {s : Site} (tree : Stream) (k : ℕ) (at : Spot) where
   -- after want of memory nothing is known
-  pub unstated : {T V : Type 0} {answer : Result (Ask T) Memory} {P : Frame → Flows → T → Type 0} {as_p : Flows → T → (cell : ℕ) → V} {h : Context → Gives V} → Flowing a b x y f1 f2 s answer P as_p h
+  pub unstated : {T V : Type 0} {answer : Result (Ask T) Memory} {P : Frame → List Node → T → Type 0} {as_p : List Node → T → (cell : ℕ) → V} {h : Context → Gives V} → Flowing a b x y f1 f2 s answer P as_p h
       → (r : Result (Ask Stated) Memory) → IsErr r → Stating a b s tree k at r
   unstated p (Ok v) e = absurd (false≢true e)
   unstated p (Err n) e = record { looks = p.works.looks; keeps = p.works.keeps; shown = tt; waits = tt; told = λ made in_hand told. tt }

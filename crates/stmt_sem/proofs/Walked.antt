@@ -14,68 +14,56 @@ use Rattle.m2_base.specs.declared.replies.Ask.TheVariants.{Known}
 use Rattle.m2_base.specs.declared.rows.Place.{Place}
 use Rattle.m2_base.specs.declared.sites.Site.{Site}
 use Rattle.type_rules.specs.Scenes.{IsThere}
-use Rattle.expr_sem.specs.Codings.{Coding, with_types}
-use Rattle.expr_sem.specs.declared.fragments.Fragments.{Fragments}
+use Rattle.expr_sem.specs.Codings.{with_types}
 use Rattle.expr_sem.specs.declared.fragments.Node.{Node}
 use Rattle.expr_sem.specs.declared.pieces.With.{With}
 use Rattle.m2_base.proofs.Kept.{Works-refl}
-use Rattle.stmt_sem.specs.FlowNodes.{IsAmong, arms_among, flows_in}
+use Rattle.stmt_sem.specs.FlowTrees.{IsOver, arms_among}
 use Rattle.stmt_sem.specs.Flowings.{Flowing}
 use Rattle.stmt_sem.specs.Flows as flow
 use Rattle.stmt_sem.specs.Stated.{IsArm, arms_in, block_in, onto}
 use Rattle.stmt_sem.specs.declared.flows.Arm.{Arm}
 use Rattle.stmt_sem.specs.declared.flows.Flow.{Flow}
-use Rattle.stmt_sem.specs.declared.flows.Flows.{Flows}
-use Rattle.stmt_sem.proofs.Flowed.{among_fragments, full_after, full_after_both, holds_after, of_coding, with_fragments}
-use Rattle.stmt_sem.proofs.FlowsKept.{Grows-refl}
-
--- code alone, of these flows
-pub of_code : {T V : Type 0} {a b : State} {x y : Notes} {s : Site} {P : Frame → List Node → T → Type 0} {as_p : List Node → T → V} {g : Context → Gives V} (from : Flows) (made : Fragments) (answer : Result (Ask T) Memory)
-    → Coding a b x y from.fragments.nodes.items made.nodes.items s answer P as_p g → Flowing a b x y from (record { fragments = made; nodes = from.nodes }) s answer (among_fragments P) (with_fragments as_p) g
-of_code from made answer p = of_coding {from = from} {to = record { fragments = made; nodes = from.nodes }} answer p refl
-
--- code alone, of an analysis that added fragments alone
-pub of_part : {T V : Type 0} {a b : State} {x y : Notes} {s : Site} {P : Frame → List Node → T → Type 0} {as_p : List Node → T → V} {g : Context → Gives V} (from to : Flows) (answer : Result (Ask T) Memory)
-    → Coding a b x y from.fragments.nodes.items to.fragments.nodes.items s answer P as_p g → to.nodes.items ≡ from.nodes.items → Flowing a b x y from to s answer (among_fragments P) (with_fragments as_p) g
-of_part from to answer p e = of_coding {from = from} {to = to} answer p e
+use Rattle.expr_sem.proofs.Sequencing.{Grows-refl}
+use Rattle.stmt_sem.proofs.Flowed.{full_after, full_after_both, holds_after}
 
 -- memory was wanted behind a known part
-pub full_by : {T U V W : Type 0} {a b : State} {x y : Notes} {f1 f2 : Flows} {s : Site} {P : Frame → Flows → T → Type 0} {Q : Frame → Flows → U → Type 0} {as_p : Flows → T → (cell : ℕ) → V} {as_q : Flows → U → (cell : ℕ) → W} {g : Context → Gives V} {h : Context → Gives W} {v : T} (r : Result (Ask U) Memory)
+pub full_by : {T U V W : Type 0} {a b : State} {x y : Notes} {f1 f2 : List Node} {s : Site} {P : Frame → List Node → T → Type 0} {Q : Frame → List Node → U → Type 0} {as_p : List Node → T → (cell : ℕ) → V} {as_q : List Node → U → (cell : ℕ) → W} {g : Context → Gives V} {h : Context → Gives W} {v : T} (r : Result (Ask U) Memory)
     → IsErr r → Flowing a b x y f1 f2 s (Ok (Known v)) P as_p g → Flowing a b x y f1 f2 s r Q as_q h
 full_by (Ok w) is p = absurd (let e : false ≡ true = is in cc)
 full_by (Err n) is p = full_after p n
 
 -- and behind a known later part
-pub full_by_both : {T U V W R X : Type 0} {a b d : State} {x y z : Notes} {f1 f2 f3 : Flows} {s : Site} {P : Frame → Flows → T → Type 0} {Q : Frame → Flows → U → Type 0} {S : Frame → Flows → R → Type 0} {as_p : Flows → T → (cell : ℕ) → V} {as_q : Flows → U → (cell : ℕ) → W} {as_r : Flows → R → (cell : ℕ) → X} {g : Context → Gives V} {h : Context → Gives W} {k : Context → Gives X} {v : T} {w : U} (r : Result (Ask R) Memory)
+pub full_by_both : {T U V W R X : Type 0} {a b d : State} {x y z : Notes} {f1 f2 f3 : List Node} {s : Site} {P : Frame → List Node → T → Type 0} {Q : Frame → List Node → U → Type 0} {S : Frame → List Node → R → Type 0} {as_p : List Node → T → (cell : ℕ) → V} {as_q : List Node → U → (cell : ℕ) → W} {as_r : List Node → R → (cell : ℕ) → X} {g : Context → Gives V} {h : Context → Gives W} {k : Context → Gives X} {v : T} {w : U} (r : Result (Ask R) Memory)
     → IsErr r → Flowing a b x y f1 f2 s (Ok (Known v)) P as_p g → Flowing b d y z f2 f3 s (Ok (Known w)) Q as_q h → Flowing a d x z f1 f3 s r S as_r k
 full_by_both (Ok w) is p q = absurd (let e : false ≡ true = is in cc)
 full_by_both (Err n) is p q = full_after_both p q n
 
 -- a type can still be asked for
-pub there_after : {T V : Type 0} {a b : State} {x y : Notes} {f1 f2 : Flows} {s : Site} {P : Frame → Flows → T → Type 0} {as_p : Flows → T → (cell : ℕ) → V} {g : Context → Gives V} {answer : Result (Ask T) Memory} → Flowing a b x y f1 f2 s answer P as_p g → (t : Place) → IsThere a.frame t → IsThere b.frame t
+pub there_after : {T V : Type 0} {a b : State} {x y : Notes} {f1 f2 : List Node} {s : Site} {P : Frame → List Node → T → Type 0} {as_p : List Node → T → (cell : ℕ) → V} {g : Context → Gives V} {answer : Result (Ask T) Memory} → Flowing a b x y f1 f2 s answer P as_p g → (t : Place) → IsThere a.frame t → IsThere b.frame t
 there_after p t h = holds_after p (λ (f : Frame). IsThere f t) h
 
 -- memory was wanted at once
-pub wanted_first : {T V : Type 0} {P : Frame → Flows → T → Type 0} {as_p : Flows → T → (cell : ℕ) → V} {g : Context → Gives V} (a : State) (n : Notes) (fs : Flows) (s : Site) (r : Result (Ask T) Memory) → IsErr r → Flowing a a n n fs fs s r P as_p g
-wanted_first a n fs s (Ok v) is = absurd (let e : false ≡ true = is in cc)
-wanted_first a n fs s (Err m) is = record { works = Works-refl a n; waits = tt; grows = Grows-refl fs; told = λ made in_hand told of_site. tt; there = tt }
+pub wanted_first : {T V : Type 0} {P : Frame → List Node → T → Type 0} {as_p : List Node → T → (cell : ℕ) → V} {g : Context → Gives V} (a : State) (n : Notes) (ns : List Node) (s : Site) (r : Result (Ask T) Memory) → IsErr r → Flowing a a n n ns ns s r P as_p g
+wanted_first a n ns s (Ok v) is = absurd (let e : false ≡ true = is in cc)
+wanted_first a n ns s (Err m) is = record { works = Works-refl a n; waits = tt; grows = Grows-refl ns; told = λ made in_hand told of_site. tt; there = tt }
 
 -- ---- none yet
 
-pub none_there : (fs : Flows) (made : Vec Flow Global) → made.items ≡ [] → Each (IsAmong fs) made.items
-none_there fs made e = subst (λ (xs : List Flow). Each (IsAmong fs) xs) (sym e) tt
+pub none_there : (ns : List Node) (made : Vec Flow Global) → made.items ≡ [] → Each (IsOver ns) made.items
+none_there ns made e = subst (λ (xs : List Flow). Each (IsOver ns) xs) (sym e) tt
 
-pub none_in : (fs : Flows) (made : Vec Flow Global) → made.items ≡ [] → (cell : ℕ) → block_in fs made cell ≡ (λ rest. rest)
-none_in fs made e cell =
-    let put : List Flow → flow.Flow → flow.Flow = λ xs rest. onto (flows_in fs) xs cell rest in
+pub none_in : (ns : List Node) (made : Vec Flow Global) → made.items ≡ [] → (cell : ℕ) → block_in ns made cell ≡ (λ rest. rest)
+none_in ns made e cell =
+    let put : List Flow → flow.Flow → flow.Flow = λ xs rest. onto ns xs cell rest in
     ap put e
 
-pub no_arms_there : (f : Frame) (fs : Flows) (made : Vec Arm Global) → made.items ≡ [] → Each (IsArm f fs) made.items
-no_arms_there f fs made e = subst (λ (xs : List Arm). Each (IsArm f fs) xs) (sym e) tt
+pub no_arms_there : (f : Frame) (ns : List Node) (made : Vec Arm Global) → made.items ≡ [] → Each (IsArm f ns) made.items
+no_arms_there f ns made e = subst (λ (xs : List Arm). Each (IsArm f ns) xs) (sym e) tt
 
-pub no_arms_in : (fs : Flows) (made : Vec Arm Global) → made.items ≡ [] → (cell : ℕ) → arms_in fs made cell ≡ (λ other. other)
-no_arms_in fs made e cell =
-    let put : List Arm → Option flow.Flow → Option flow.Flow = λ xs other. arms_among fs.fragments.nodes.items (flows_in fs) xs cell other in
+pub no_arms_in : (ns : List Node) (made : Vec Arm Global) → made.items ≡ [] → (cell : ℕ) → arms_in ns made cell ≡ (λ other. other)
+no_arms_in ns made e cell =
+    let put : List Arm → Option flow.Flow → Option flow.Flow = λ xs other. arms_among ns xs cell other in
     ap put e
 
 -- ---- open WITHs

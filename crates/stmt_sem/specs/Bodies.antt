@@ -20,16 +20,16 @@ use Rattle.type_rules.specs.Scenes.{WhereTold}
 use Rattle.type_rules.specs.Sites.{context_of}
 use Rattle.expr_sem.specs.Fragments.{step_view}
 use Rattle.expr_sem.specs.Parts.{Made}
+use Rattle.expr_sem.specs.declared.fragments.Node.{Node}
 use Rattle.expr_sem.specs.Pieces.{extend}
 use Rattle.expr_sem.specs.declared.pieces.Piece.{Piece}
 use Rattle.stmt_sem.specs.BlockCode.{body_of, ending, first_spot, in_statements, prologue, run_of, size_diags}
 use Rattle.stmt_sem.specs.BlockCode.{stand_of}
-use Rattle.stmt_sem.specs.FlowNodes.{flow_in}
+use Rattle.stmt_sem.specs.FlowTrees.{flow_in}
 use Rattle.stmt_sem.specs.Flows.{Flow, Run, part_at, straight, ◌⨾◌}
 use Rattle.stmt_sem.specs.Statements.{flow_of}
 use Rattle.stmt_sem.specs.Stating.{block_at, given_at, statement_at}
 use Rattle.stmt_sem.specs.declared.flows.Flow.{Flow as FlowOf}
-use Rattle.stmt_sem.specs.declared.flows.Flows.{Flows}
 use Rattle.stmt_sem.specs.declared.top_statements.Stated.{Stated}
 
 -- ---- what is there
@@ -75,8 +75,8 @@ pub record IsAdded (before after : Built) (given : Gives Flow) : Type 0 where
   pub count : after.count ≡ before.count + 1
 
 -- what a flow and its notes stand for
-abbrev pub given_in : Flows → FlowOf → Notes → Gives Flow
-given_in fs flow n = record { value = flow_in fs flow 0; diags = n.diags.items; answers = n.answers.items }
+abbrev pub given_in : List Node → FlowOf → Notes → Gives Flow
+given_in ns flow n = record { value = flow_in ns flow 0; diags = n.diags.items; answers = n.answers.items }
 
 -- nothing was added, unless the answer is known
 abbrev pub IsSameUnlessKnown : (before after : Built) → Result (Ask (Unit {0})) Memory → Type 0

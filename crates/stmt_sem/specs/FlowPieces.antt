@@ -1,4 +1,4 @@
--- What a piece has once an arm is appended.
+-- What a piece has once an arm, or a part of a choice, is appended.
 use Rattle.std.specs.Prelude.{◌≡◌, ℕ, ◌+◌, pos, negsuc, List, [], ◌∷◌, Option, Some, None}
 use Rattle.code_form.specs.declared.instr.Instr.TheVariants.{Jump, JumpFalse}
 use Rattle.expr_sem.specs.Parts.{Part, plain, ◌⨟◌}
@@ -20,6 +20,11 @@ AppendedArm before after ws out left test body =
     (other : Option Flow) → Over other left
     → ends_as after ws (part_at out (flow_or_nothing other))
     ≡ ends_as before ws (part_at out (flow_or_nothing (arm_before test body other)))
+
+-- what was appended, with the rest behind it, is the whole
+abbrev pub AppendedBefore : (before after : Piece) → List With → (out : ℕ) → (rest whole : Flow) → Type 0
+AppendedBefore before after ws out rest whole =
+    ends_as after ws (part_at out rest) ≡ ends_as before ws (part_at out whole)
 
 -- what comes after the body of a loop that counts, whose length is told
 abbrev pub again_part : (body again step : ℕ) → Part → Part → Part

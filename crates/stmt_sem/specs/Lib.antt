@@ -11,7 +11,7 @@ pub mod Heights
 pub mod Tokens
 pub mod Lengths
 pub mod Plain
-pub mod FlowNodes
+pub mod FlowTrees
 pub mod Flowings
 pub mod FlowSizes
 pub mod FlowPieces

@@ -8,12 +8,11 @@ use Rattle.type_rules.specs.Sites.{AreOfSite}
 use Rattle.expr_sem.specs.Fragments.{IsIn, part}
 use Rattle.expr_sem.specs.Parts.{Part}
 use Rattle.expr_sem.specs.declared.fragments.Node.{Node}
-use Rattle.stmt_sem.specs.FlowNodes.{IsCodeOf, flow_in}
+use Rattle.stmt_sem.specs.FlowTrees.{IsCodeOf, flow_in}
 use Rattle.stmt_sem.specs.Flows as flow
 use Rattle.stmt_sem.specs.declared.cases.Selected.{Selected}
 use Rattle.stmt_sem.specs.declared.flows.Code.{Code}
 use Rattle.stmt_sem.specs.declared.flows.Flow.{Flow}
-use Rattle.stmt_sem.specs.declared.flows.Flows.{Flows}
 
 -- the value of a selector, and its type
 abbrev pub selector_in : List Node → Selected → Part × Place
@@ -27,5 +26,5 @@ abbrev pub IsCellCode : Frame → List Node → Code → Type 0
 IsCellCode f ns x = IsCodeOf ns x
 
 -- where the texts are told, a flow stands for this code, whatever the cell is
-abbrev pub StandsFor : Frame → Site → Flows → Flow → flow.Flow → Type 0
-StandsFor f s fs x code = WhereTold f (λ made. AreOfSite s made → (cell : ℕ) → flow_in fs x cell ≡ code)
+abbrev pub StandsFor : Frame → Site → List Node → Flow → flow.Flow → Type 0
+StandsFor f s ns x code = WhereTold f (λ made. AreOfSite s made → (cell : ℕ) → flow_in ns x cell ≡ code)

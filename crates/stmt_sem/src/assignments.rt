@@ -13,7 +13,7 @@ ghost use Rattle.stmt_sem.specs.Assignments.{assignment as spec_assignment, code
 ghost use Rattle.stmt_sem.specs.Assignments.{store_code as spec_store, store_text as spec_store_text};
 ghost use Rattle.stmt_sem.specs.Assignments.{store_value as spec_store_value};
 ghost use Rattle.stmt_sem.specs.Stands.{IsStand};
-ghost use Rattle.stmt_sem.specs.Walkers.{Codes, Keeps, KeepsNodes, frame_of, nodes_of};
+ghost use Rattle.stmt_sem.specs.Walkers.{Codes, Keeps, frame_of, nodes_of};
 
 use crate::stands::Stand;
 use crate::walker::Walker;
@@ -138,7 +138,6 @@ impl<S: Scopes> Walker<'_, S> {
         requires to { IsCoded (frame_of S.state self.old) (nodes_of self.old) to }
         requires x { IsCoded (frame_of S.state self.old) (nodes_of self.old) x.coded }
         ensures keeps { Keeps self.old self.new }
-        ensures nodes { KeepsNodes self.old self.new }
         ensures codes { Codes S.state self.old self.new stand.now result IsFragment part (λ s.
             spec_assignment s.context (coded_in (nodes_of self.old) to) x.at (coded_in (nodes_of self.old) x.coded)) }
     {
@@ -147,13 +146,7 @@ impl<S: Scopes> Walker<'_, S> {
         }
         let of = operand_type(&to.operand);
         let value = analysed!(self.assigned_to(stand, of, Diagnostic::NotAssignable, x));
-        store_code(
-            self.scopes,
-            stand.site,
-            to,
-            value,
-            &mut self.flows.fragments,
-        )
+        store_code(self.scopes, stand.site, to, value, self.fragments)
     }
 }
 

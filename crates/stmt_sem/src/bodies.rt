@@ -12,19 +12,20 @@ ghost use Rattle.m2_base.specs.Views.{stream_view};
 ghost use Rattle.decl_sem.specs.Effects.{copy_view};
 ghost use Rattle.type_rules.specs.Scenes.{IsThere};
 ghost use Rattle.type_rules.specs.Sites.{SuitsSite};
+ghost use Rattle.expr_sem.specs.Fragments.{AreSound};
 ghost use Rattle.expr_sem.specs.Pieces.{Appended, IsAsBefore};
 ghost use Rattle.stmt_sem.specs.BlockCode.{size_by, size_diags};
 ghost use Rattle.stmt_sem.specs.Bodies.{Adding, IsBuilt, IsWhole};
-ghost use Rattle.stmt_sem.specs.FlowNodes.{AreSound, IsAmong, flow_in};
+ghost use Rattle.stmt_sem.specs.FlowTrees.{IsOver, flow_in};
 ghost use Rattle.stmt_sem.specs.Flows.{Run, part_at};
 ghost use Rattle.stmt_sem.specs.Stating.{Returns};
 
 use crate::block_pieces::{append_ending, begun};
 use crate::flow_appending::append_flow;
-use crate::flows::{Flow, Flows};
+use crate::flows::Flow;
 use crate::top_statements::{Stated, TopStatement, top_statement};
 use decl_sem::ParamCopy;
-use expr_sem::{Piece, capped_sum};
+use expr_sem::{Fragments, Piece, capped_sum};
 use m2_base::{
     Around, Ask, Diagnostic, Ident, MOST_CELLS, Memory, Notes, Place, Scopes, Site, Stream,
     StreamKind,
@@ -47,15 +48,16 @@ fn append_notes(notes: &mut Notes, more: &Notes) -> Result<(), Memory>
 /// Puts the notes of a statement behind others, and appends its code. Without memory the piece is as it was, and the
 /// notes have what they had, and perhaps more.
 fn append_noted(
-    flows: &Flows,
-    flow: Flow,
+    flow: &Flow,
+    fragments: &Fragments,
     more: &Notes,
     piece: &mut Piece,
     notes: &mut Notes,
 ) -> Result<(), Memory>
-    requires sound { AreSound flows.now }
-    requires there { IsAmong flows.now flow }
-    ensures code { OnOk result (Appended piece.old piece.new [] (part_at 0 (flow_in flows.now flow 0))) }
+    requires sound { AreSound fragments.now.nodes.items }
+    requires there { IsOver fragments.now.nodes.items flow.now }
+    ensures code { OnOk result (Appended piece.old piece.new []
+        (part_at 0 (flow_in fragments.now.nodes.items flow.now 0))) }
     ensures diags { OnOk result (notes.new.diags.items ≡ notes.old.diags.items ++ more.now.diags.items) }
     ensures answers { OnOk result (notes.new.answers.items ≡ notes.old.answers.items ++ more.now.answers.items) }
     ensures same { OnErr result (IsAsBefore piece.old piece.new) }
@@ -63,20 +65,21 @@ fn append_noted(
     ensures first { IsPrefixOf notes.old.answers.items notes.new.answers.items }
 {
     append_notes(notes, more)?;
-    append_flow(flows, flow, piece)
+    append_flow(flow, fragments, piece)
 }
 
 /// Puts the notes of a statement behind others, and appends its code. Without memory both are as they were.
 fn append_stated(
-    flows: &Flows,
-    flow: Flow,
+    flow: &Flow,
+    fragments: &Fragments,
     more: &Notes,
     piece: &mut Piece,
     notes: &mut Notes,
 ) -> Result<(), Memory>
-    requires sound { AreSound flows.now }
-    requires there { IsAmong flows.now flow }
-    ensures code { OnOk result (Appended piece.old piece.new [] (part_at 0 (flow_in flows.now flow 0))) }
+    requires sound { AreSound fragments.now.nodes.items }
+    requires there { IsOver fragments.now.nodes.items flow.now }
+    ensures code { OnOk result (Appended piece.old piece.new []
+        (part_at 0 (flow_in fragments.now.nodes.items flow.now 0))) }
     ensures diags { OnOk result (notes.new.diags.items ≡ notes.old.diags.items ++ more.now.diags.items) }
     ensures answers { OnOk result (notes.new.answers.items ≡ notes.old.answers.items ++ more.now.answers.items) }
     ensures same { OnErr result (IsAsBefore piece.old piece.new) }
@@ -84,7 +87,7 @@ fn append_stated(
     ensures same_answers { OnErr result (notes.new.answers.items ≡ notes.old.answers.items) }
 {
     let (diags, answers) = (notes.diags.len(), notes.answers.len());
-    let appended = append_noted(flows, flow, more, piece, notes);
+    let appended = append_noted(flow, fragments, more, piece, notes);
     if appended.is_err() {
         notes.diags.truncate(diags);
         notes.answers.truncate(answers);
@@ -212,15 +215,15 @@ impl Body {
             (stream_view stream.now) result }
     {
         let alloc = *self.piece.steps.allocator();
-        let mut flows = Flows::new(alloc);
+        let mut fragments = Fragments::new(alloc);
         let mut notes = Notes::new(alloc);
         let of = &stream.body[self.count];
         let top = TopStatement {
             of,
             result: returns,
         };
-        let flow = analysed!(top_statement(scopes, site, &top, &mut flows, &mut notes));
-        append_stated(&flows, flow, &notes, &mut self.piece, &mut self.notes)?;
+        let flow = analysed!(top_statement(scopes, site, &top, &mut fragments, &mut notes));
+        append_stated(&flow, &fragments, &notes, &mut self.piece, &mut self.notes)?;
         self.count += 1;
         Ok(Ask::Known(()))
     }

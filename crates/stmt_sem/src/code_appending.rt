@@ -7,7 +7,7 @@ ghost use Rattle.expr_sem.specs.declared.pieces.With.{With as OpenWith};
 ghost use Rattle.code_form.specs.declared.instr.Instr.TheVariants.{JumpFalse, Load, Local, Push};
 ghost use Rattle.stmt_sem.specs.Cases.{label_code, labels_code, more_labels_code};
 ghost use Rattle.case_labels.specs.Seen.{test_seen};
-ghost use Rattle.stmt_sem.specs.FlowNodes.{IsCodeOf, code_by};
+ghost use Rattle.stmt_sem.specs.FlowTrees.{IsCodeOf, code_by};
 
 use crate::flow_sizes::{JUMP, label_size, sum};
 use crate::flows::Code;

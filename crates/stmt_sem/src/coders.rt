@@ -10,7 +10,7 @@ ghost use Rattle.expr_sem.specs.Expressions.{call_alone as spec_alone, designate
 ghost use Rattle.expr_sem.specs.Values.{assigned_to as spec_assigned};
 ghost use Rattle.stmt_sem.specs.Stands.{IsStand, names_of};
 ghost use Rattle.stmt_sem.specs.Statements.{value_at};
-ghost use Rattle.stmt_sem.specs.Walkers.{Codes, Keeps, KeepsNodes, frame_of, nodes_of};
+ghost use Rattle.stmt_sem.specs.Walkers.{Codes, Keeps, frame_of, nodes_of};
 
 use crate::stands::Stand;
 use crate::walker::Walker;
@@ -24,7 +24,7 @@ macro_rules! coder_at {
             scopes: $walker.scopes,
             site: $stand.site,
             withs: $stand.withs,
-            fragments: &mut $walker.flows.fragments,
+            fragments: $walker.fragments,
             notes: $walker.notes,
         }
     };
@@ -40,7 +40,6 @@ impl<S: Scopes> Walker<'_, S> {
         requires stand { IsStand (frame_of S.state self.old) stand.now }
         requires of { IsReadDesignator (names_of stand.now) (designator_view of.now) }
         ensures keeps { Keeps self.old self.new }
-        ensures nodes { KeepsNodes self.old self.new }
         ensures codes { Codes S.state self.old self.new stand.now result IsCoded coded_in
             (λ s. spec_designated s.context s.withs (designator_view of.now)) }
     {
@@ -52,7 +51,6 @@ impl<S: Scopes> Walker<'_, S> {
         requires stand { IsStand (frame_of S.state self.old) stand.now }
         requires e { IsReadExpr (names_of stand.now) (expr_view e.now) }
         ensures keeps { Keeps self.old self.new }
-        ensures nodes { KeepsNodes self.old self.new }
         ensures codes { Codes S.state self.old self.new stand.now result IsCoded coded_in
             (λ s. value_at s (expr_view e.now)) }
     {
@@ -70,7 +68,6 @@ impl<S: Scopes> Walker<'_, S> {
         requires to { IsReadDesignator (names_of stand.now) (designator_view to.now) }
         requires args { AreReadExprs (names_of stand.now) (exprs (map expr_view args.now)) }
         ensures keeps { Keeps self.old self.new }
-        ensures nodes { KeepsNodes self.old self.new }
         ensures codes { Codes S.state self.old self.new stand.now result IsCoded coded_in
             (λ s. spec_alone s.context s.withs (designator_view to.now) (exprs (map expr_view args.now))) }
     {
@@ -89,7 +86,6 @@ impl<S: Scopes> Walker<'_, S> {
         requires to { IsThere (frame_of S.state self.old) to }
         requires x { IsCoded (frame_of S.state self.old) (nodes_of self.old) x.coded }
         ensures keeps { Keeps self.old self.new }
-        ensures nodes { KeepsNodes self.old self.new }
         ensures codes { Codes S.state self.old self.new stand.now result IsCoded coded_in
             (λ s. spec_assigned s.context to x.at (code_of refusal) (coded_in (nodes_of self.old) x.coded)) }
     {

@@ -10,7 +10,7 @@ ghost use Rattle.type_rules.specs.Scenes.{IsRowOf, IsThere, Suits, WhereTold, sc
 ghost use Rattle.type_rules.specs.Sites.{SuitsSite};
 ghost use Rattle.stmt_sem.specs.Counting.{can_control as spec_can, control_variable as spec_variable, controls_by};
 ghost use Rattle.stmt_sem.specs.Stands.{IsStand};
-ghost use Rattle.stmt_sem.specs.Walkers.{Codes, Keeps, KeepsNodes, frame_of, nodes_of};
+ghost use Rattle.stmt_sem.specs.Walkers.{Codes, Keeps, frame_of, nodes_of};
 
 use crate::stands::Stand;
 use crate::walker::Walker;
@@ -92,7 +92,6 @@ impl<S: Scopes> Walker<'_, S> {
         requires stand { IsStand (frame_of S.state self.old) stand.now }
         requires named { ident.name ≢ 0 }
         ensures keeps { Keeps self.old self.new }
-        ensures nodes { KeepsNodes self.old self.new }
         ensures codes { Codes S.state self.old self.new stand.now result IsCoded coded_in
             (λ s. spec_variable s.context s.withs ident) }
     {
@@ -105,12 +104,7 @@ impl<S: Scopes> Walker<'_, S> {
         let Some(entry) = entry else {
             return Ok(Ask::Known(Coded::in_error()));
         };
-        let coded = analysed!(entry_coded(
-            self.scopes,
-            site,
-            Some(entry),
-            &mut self.flows.fragments
-        ));
+        let coded = analysed!(entry_coded(self.scopes, site, Some(entry), self.fragments));
         check_control(self.scopes, site, entry, Placed { at, coded }, self.notes)
     }
 }

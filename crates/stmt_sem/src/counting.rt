@@ -9,14 +9,14 @@ ghost use Rattle.m2_base.specs.Views.{expr_view};
 ghost use Rattle.m2_base.specs.declared.notes.Notes.{Notes as NotesOf};
 ghost use Rattle.code_form.specs.declared.instr.Instr.TheVariants as instrs;
 ghost use Rattle.expr_sem.specs.Codings.{Coding, IsCoded, IsFragment, coded_in};
-ghost use Rattle.expr_sem.specs.Fragments.{IsIn, IsMade, part};
+ghost use Rattle.expr_sem.specs.Fragments.{AreSound, IsIn, IsMade, part};
 ghost use Rattle.expr_sem.specs.Parts.{plain, ◌⨟◌};
 ghost use Rattle.expr_sem.specs.declared.fragments.Node.{Node};
 ghost use Rattle.type_rules.specs.Sites.{SuitsSite};
 ghost use Rattle.stmt_sem.specs.Counting.{bound_value, comparison as spec_comparison, for_first as spec_first};
 ghost use Rattle.stmt_sem.specs.Counting.{for_last as spec_last, for_more, for_step as spec_step, for_test, has_code};
 ghost use Rattle.stmt_sem.specs.Counting.{or_one};
-ghost use Rattle.stmt_sem.specs.FlowNodes.{AreSound, IsAmong, IsFlowMade, code_by, flow_in};
+ghost use Rattle.stmt_sem.specs.FlowTrees.{IsOver, MadeBy, code_by, flow_in};
 ghost use Rattle.stmt_sem.specs.Flowings.{Flowing, IsFlow};
 ghost use Rattle.stmt_sem.specs.Flows as flow;
 ghost use Rattle.stmt_sem.specs.Flows.{counted as spec_counted};
@@ -24,12 +24,12 @@ ghost use Rattle.stmt_sem.specs.Plain.{IsStep, itself};
 ghost use Rattle.stmt_sem.specs.Stands.{IsStand, names_of, stand_in};
 ghost use Rattle.stmt_sem.specs.Statements.{by_of, for_flow, value_at};
 ghost use Rattle.stmt_sem.specs.Taken.{IsCellCode, StandsFor};
-ghost use Rattle.stmt_sem.specs.Walkers.{Codes, Keeps, KeepsNodes, frame_of, nodes_of};
+ghost use Rattle.stmt_sem.specs.Walkers.{Codes, Keeps, frame_of, nodes_of};
 ghost use Rattle.stmt_sem.specs.declared.stands.Stand.{Stand as StandOf};
 
 use crate::assignments::store_code;
 use crate::flow_parts::{self, behind, celled};
-use crate::flows::{Code, Flow, Flows};
+use crate::flows::{Code, Flow, Turns};
 use crate::refusals::refused_step;
 use crate::stands::Stand;
 use crate::walker::Walker;
@@ -62,7 +62,6 @@ impl<S: Scopes> Walker<'_, S> {
         requires x { IsCoded (frame_of S.state self.old) (nodes_of self.old) x }
         requires e { IsReadExpr (names_of stand.now) (expr_view e.now) }
         ensures keeps { Keeps self.old self.new }
-        ensures nodes { KeepsNodes self.old self.new }
         ensures codes { Codes S.state self.old self.new stand.now result IsCoded coded_in (λ s. and_then (value_at s
             (expr_view e.now)) (bound_value s.context (coded_in (nodes_of self.old) x) (expr_at (expr_view e.now)))) }
     {
@@ -208,22 +207,28 @@ fn emit_turns(
     by: i64,
     step: Fragment,
     body: Flow,
-    flows: &mut Flows,
+    fragments: &Fragments,
 ) -> Result<Flow, Memory>
-    requires x { IsIn flows.old.fragments.nodes.items x.code }
-    requires step { IsIn flows.old.fragments.nodes.items step }
-    requires body { IsAmong flows.old body }
-    ensures { IsFlowMade flows.old flows.new result (λ t. if has_code (coded_in flows.old.fragments.nodes.items x) then
-        spec_counted (for_test t (coded_in flows.old.fragments.nodes.items x) by) (flow_in flows.old body t)
-        (for_more t (coded_in flows.old.fragments.nodes.items x) by) (part flows.old.fragments.nodes.items step)
-        else flow_in flows.old body t) }
+    requires sound { AreSound fragments.now.nodes.items }
+    requires x { IsIn fragments.now.nodes.items x.code }
+    requires step { IsIn fragments.now.nodes.items step }
+    requires body { IsOver fragments.now.nodes.items body }
+    ensures { let nodes = fragments.now.nodes.items in let variable = coded_in nodes x in
+        MadeBy nodes result (λ t. if has_code variable then spec_counted (for_test t variable by)
+        (flow_in nodes body t) (for_more t variable by) (part nodes step) else flow_in nodes body t) }
 {
     if is_bad(x.operand) {
         return Ok(body);
     }
     let first = Code::Compared(x.code, comparison(by));
     let again = Code::Compared(x.code, Instr::More(by));
-    flows.counted(first, body, again, step)
+    let turns = Turns {
+        first,
+        body,
+        again,
+        step,
+    };
+    Flow::counted(turns, fragments)
 }
 
 /// The code of a FOR that counts so, with this body.
@@ -232,27 +237,26 @@ pub fn emit_for<S: Scopes>(
     site: &Site,
     count: &Count,
     body: Flow,
-    flows: &mut Flows,
+    fragments: &mut Fragments,
 ) -> Result<Ask<Flow>, Memory>
     requires suits { SuitsSite (S.state scopes.old).frame site.now }
-    requires sound { AreSound flows.old }
-    requires variable { IsCoded (S.state scopes.old).frame flows.old.fragments.nodes.items count.now.variable }
-    requires first { IsCoded (S.state scopes.old).frame flows.old.fragments.nodes.items count.now.first }
-    requires last { IsCoded (S.state scopes.old).frame flows.old.fragments.nodes.items count.now.last }
-    requires body { IsAmong flows.old body }
-    ensures { (notes : NotesOf) (within : flow.Flow) → StandsFor (S.state scopes.old).frame site.now flows.old
-        body within → Flowing (S.state scopes.old) (S.state scopes.new) notes notes flows.old flows.new site.now
-        result IsFlow flow_in (λ c. gives (for_flow c (coded_in flows.old.fragments.nodes.items count.now.variable)
-        (coded_in flows.old.fragments.nodes.items count.now.first)
-        (coded_in flows.old.fragments.nodes.items count.now.last) count.now.by within)) }
+    requires sound { AreSound fragments.old.nodes.items }
+    requires variable { IsCoded (S.state scopes.old).frame fragments.old.nodes.items count.now.variable }
+    requires first { IsCoded (S.state scopes.old).frame fragments.old.nodes.items count.now.first }
+    requires last { IsCoded (S.state scopes.old).frame fragments.old.nodes.items count.now.last }
+    requires body { IsOver fragments.old.nodes.items body }
+    ensures { (notes : NotesOf) (within : flow.Flow) → StandsFor (S.state scopes.old).frame site.now
+        fragments.old.nodes.items body within → Flowing (S.state scopes.old) (S.state scopes.new) notes
+        notes fragments.old.nodes.items fragments.new.nodes.items site.now result IsFlow flow_in (λ c.
+        gives (for_flow c (coded_in fragments.old.nodes.items count.now.variable) (coded_in fragments.old.nodes.items
+        count.now.first) (coded_in fragments.old.nodes.items count.now.last) count.now.by within)) }
 {
     let x = count.variable;
-    let fragments = &mut flows.fragments;
     let first = analysed!(emit_first(scopes, site, x, count.first, fragments));
     let last = analysed!(emit_last(scopes, site, x, count.last, fragments));
     let step = analysed!(emit_step(scopes, site, x, count.by, fragments));
-    let turns = emit_turns(x, count.by, step, body, flows)?;
-    let counted = celled(last, turns, flows)?;
-    let start = flows.straight(Code::Fixed(first))?;
-    flow_parts::answered(behind(start, counted, flows))
+    let turns = emit_turns(x, count.by, step, body, fragments)?;
+    let counted = celled(last, turns, fragments)?;
+    let start = Flow::straight(Code::Fixed(first), fragments)?;
+    flow_parts::answered(behind(start, counted, *fragments.nodes.allocator()))
 }

@@ -1,148 +1,168 @@
-//! Further flows, each made of earlier ones and of fragments.
-ghost use Rattle.std.specs.Prelude.{length};
+//! Flows, made of others and of fragments.
+ghost use Rattle.std.specs.Prelude.{List};
 ghost use Rattle.m2_base.specs.Lists.{Each};
-ghost use Rattle.expr_sem.specs.Fragments.{IsIn, part};
-ghost use Rattle.stmt_sem.specs.FlowNodes.{AreSound, IsAmong, IsArmOf, IsBefore, IsBeforeIfAny, IsCodeOf, IsFlowMade};
-ghost use Rattle.stmt_sem.specs.FlowNodes.{IsMadeOf, Measures, block_among, choice_among, code_by, flow_in, flows_in};
-ghost use Rattle.stmt_sem.specs.FlowNodes.{form_flow};
-ghost use Rattle.stmt_sem.specs.Flows.{counted as spec_counted, exit as spec_exit, for_ever as spec_for_ever};
-ghost use Rattle.stmt_sem.specs.Flows.{in_with as spec_in_with, straight as spec_straight};
+ghost use Rattle.expr_sem.specs.Fragments.{AreSound, IsIn, part};
+ghost use Rattle.expr_sem.specs.declared.fragments.Node.{Node};
+ghost use Rattle.stmt_sem.specs.FlowTrees.{IsArmOver, IsCodeOf, IsOverIfAny, IsOver, IsTurnsOver, MadeBy, IsFlowOf};
+ghost use Rattle.stmt_sem.specs.FlowTrees.{block_among, choice_among, code_by, flow_in, turns_in};
+ghost use Rattle.stmt_sem.specs.Flows.{exit as spec_exit, for_ever as spec_for_ever, in_with as spec_in_with};
+ghost use Rattle.stmt_sem.specs.Flows.{nothing as spec_nothing, straight as spec_straight};
 ghost use Rattle.stmt_sem.specs.Flows.{until_true as spec_until_true, while_true as spec_while_true};
 ghost use Rattle.stmt_sem.specs.Flows.{with_cell as spec_with_cell};
 
-use crate::flow_sizes::{JUMP, sum};
-use crate::flows::{Arm, Code, Flow, FlowForm, FlowNode, Flows};
-use expr_sem::Fragment;
+use crate::flow_sizes::{JUMP, block_size, choice_size, sum, turns_size};
+use crate::flows::{Arm, Code, Flow, FlowForm, Turns};
+use expr_sem::{Fragment, Fragments};
 use m2_base::Memory;
+use std::alloc::Global;
 
-impl Flows {
-    /// A further node, with the length of its code.
-    fn push(&mut self, form: FlowForm, size: u64) -> Result<Flow, Memory>
-        requires earlier { IsMadeOf self.now.fragments.nodes.items (length self.now.nodes.items) form }
-        requires size { AreSound self.now → Measures (form_flow self.now form) size }
-        ensures made { IsFlowMade self.old self.new result (form_flow self.old form) }
+impl Flow {
+    /// No code.
+    pub fn nothing() -> Flow
+        ensures { (ns : List Node) → IsFlowOf ns result (λ t. spec_nothing) }
     {
-        let Ok(number) = u32::try_from(self.nodes.len()) else {
-            return Err(Memory);
-        };
-        self.nodes.push(FlowNode { form, size })?;
-        Ok(Flow::Node(number))
+        Flow {
+            form: FlowForm::Nothing,
+            size: 0,
+        }
     }
 
     /// A statement's own code.
-    pub fn straight(&mut self, code: Code) -> Result<Flow, Memory>
-        requires there { IsCodeOf self.now.fragments.nodes.items code }
-        ensures made { IsFlowMade self.old self.new result
-            (λ t. spec_straight (code_by self.old.fragments.nodes.items code t)) }
+    pub fn straight(code: Code, fragments: &Fragments) -> Result<Flow, Memory>
+        requires sound { AreSound fragments.now.nodes.items }
+        requires there { IsCodeOf fragments.now.nodes.items code }
+        ensures { MadeBy fragments.now.nodes.items result
+            (λ t. spec_straight (code_by fragments.now.nodes.items code t)) }
     {
-        let size = self.code_size(&code)?;
-        self.push(FlowForm::Straight(code), size)
+        let size = code.size(fragments)?;
+        Ok(Flow {
+            form: FlowForm::Straight(code),
+            size,
+        })
     }
 
     /// Statements one after another.
-    pub fn block(&mut self, flows: Vec<Flow>) -> Result<Flow, Memory>
-        requires there { Each (IsBefore (length self.now.nodes.items)) flows.items }
-        ensures made { IsFlowMade self.old self.new result (block_among (flows_in self.old) flows.items) }
+    pub fn block(flows: Vec<Flow>) -> Result<Flow, Memory>
+        ensures { (ns : List Node) → Each (IsOver ns) flows.items → MadeBy ns result (block_among ns flows.items) }
     {
-        let size = self.block_size(&flows)?;
-        self.push(FlowForm::Block(flows), size)
+        let size = block_size(&flows)?;
+        Ok(Flow {
+            form: FlowForm::Block(flows),
+            size,
+        })
     }
 
     /// EXIT.
-    pub fn exit(&mut self) -> Result<Flow, Memory>
-        ensures made { IsFlowMade self.old self.new result (λ t. spec_exit) }
+    pub fn exit() -> Flow
+        ensures { (ns : List Node) → IsFlowOf ns result (λ t. spec_exit) }
     {
-        self.push(FlowForm::Exit, JUMP)
+        Flow {
+            form: FlowForm::Exit,
+            size: JUMP,
+        }
     }
 
     /// The body of the first arm whose test holds, else the other one, if there is one.
-    pub fn choice(&mut self, arms: Vec<Arm>, other: Option<Flow>) -> Result<Flow, Memory>
-        requires arms { Each (IsArmOf self.now.fragments.nodes.items (length self.now.nodes.items)) arms.items }
-        requires other { IsBeforeIfAny (length self.now.nodes.items) other }
-        ensures made { IsFlowMade self.old self.new result
-            (choice_among self.old.fragments.nodes.items (flows_in self.old) arms.items other) }
+    pub fn choice(
+        arms: Vec<Arm>,
+        other: Option<Box<Flow>>,
+        fragments: &Fragments,
+    ) -> Result<Flow, Memory>
+        requires sound { AreSound fragments.now.nodes.items }
+        requires arms { Each (IsArmOver fragments.now.nodes.items) arms.items }
+        requires other { IsOverIfAny fragments.now.nodes.items other }
+        ensures { MadeBy fragments.now.nodes.items result
+            (choice_among fragments.now.nodes.items arms.items other) }
     {
-        let size = self.choice_size(&arms, other)?;
-        self.push(FlowForm::Choice(arms, other), size)
+        let size = choice_size(&arms, &other, fragments)?;
+        Ok(Flow {
+            form: FlowForm::Choice(arms, other),
+            size,
+        })
     }
 
     /// As long as the test holds, the body.
-    pub fn while_true(&mut self, test: Fragment, body: Flow) -> Result<Flow, Memory>
-        requires test { IsIn self.now.fragments.nodes.items test }
-        requires body { IsAmong self.now body }
-        ensures made { IsFlowMade self.old self.new result
-            (λ t. spec_while_true (part self.old.fragments.nodes.items test) (flow_in self.old body t)) }
+    pub fn while_true(test: Fragment, body: Flow, fragments: &Fragments) -> Result<Flow, Memory>
+        requires sound { AreSound fragments.now.nodes.items }
+        requires test { IsIn fragments.now.nodes.items test }
+        requires body { IsOver fragments.now.nodes.items body }
+        ensures { MadeBy fragments.now.nodes.items result
+            (λ t. spec_while_true (part fragments.now.nodes.items test) (flow_in fragments.now.nodes.items body t)) }
     {
-        let once = sum(self.fragments.size(test), self.size(body))?;
+        let once = sum(fragments.size(test), body.size)?;
         let size = sum(once, JUMP + JUMP)?;
-        self.push(FlowForm::WhileTrue(test, body), size)
+        let body = Box::new(*fragments.nodes.allocator(), body)?;
+        Ok(Flow {
+            form: FlowForm::WhileTrue(test, body),
+            size,
+        })
     }
 
     /// The body until the test holds.
-    pub fn until_true(&mut self, body: Flow, test: Fragment) -> Result<Flow, Memory>
-        requires body { IsAmong self.now body }
-        requires test { IsIn self.now.fragments.nodes.items test }
-        ensures made { IsFlowMade self.old self.new result
-            (λ t. spec_until_true (flow_in self.old body t) (part self.old.fragments.nodes.items test)) }
+    pub fn until_true(body: Flow, test: Fragment, fragments: &Fragments) -> Result<Flow, Memory>
+        requires sound { AreSound fragments.now.nodes.items }
+        requires body { IsOver fragments.now.nodes.items body }
+        requires test { IsIn fragments.now.nodes.items test }
+        ensures { MadeBy fragments.now.nodes.items result
+            (λ t. spec_until_true (flow_in fragments.now.nodes.items body t) (part fragments.now.nodes.items test)) }
     {
-        let once = sum(self.size(body), self.fragments.size(test))?;
+        let once = sum(body.size, fragments.size(test))?;
         let size = sum(once, JUMP)?;
-        self.push(FlowForm::UntilTrue(body, test), size)
+        let body = Box::new(*fragments.nodes.allocator(), body)?;
+        Ok(Flow {
+            form: FlowForm::UntilTrue(body, test),
+            size,
+        })
     }
 
     /// The body for ever.
-    pub fn for_ever(&mut self, body: Flow) -> Result<Flow, Memory>
-        requires body { IsAmong self.now body }
-        ensures made { IsFlowMade self.old self.new result (λ t. spec_for_ever (flow_in self.old body t)) }
+    pub fn for_ever(body: Flow, alloc: Global) -> Result<Flow, Memory>
+        ensures { (ns : List Node) → IsOver ns body → MadeBy ns result (λ t. spec_for_ever (flow_in ns body t)) }
     {
-        let size = sum(self.size(body), JUMP)?;
-        self.push(FlowForm::ForEver(body), size)
+        let size = sum(body.size, JUMP)?;
+        let body = Box::new(alloc, body)?;
+        Ok(Flow {
+            form: FlowForm::ForEver(body),
+            size,
+        })
     }
 
-    /// Where the first test holds the body, and after each body, where the second test holds,
-    /// the step and the body again.
-    pub fn counted(
-        &mut self,
-        first: Code,
-        body: Flow,
-        again: Code,
-        step: Fragment,
-    ) -> Result<Flow, Memory>
-        requires first { IsCodeOf self.now.fragments.nodes.items first }
-        requires body { IsAmong self.now body }
-        requires again { IsCodeOf self.now.fragments.nodes.items again }
-        requires step { IsIn self.now.fragments.nodes.items step }
-        ensures made { IsFlowMade self.old self.new result
-            (λ t. spec_counted (code_by self.old.fragments.nodes.items first t) (flow_in self.old body t)
-            (code_by self.old.fragments.nodes.items again t) (part self.old.fragments.nodes.items step)) }
+    /// A loop that counts.
+    pub fn counted(turns: Turns, fragments: &Fragments) -> Result<Flow, Memory>
+        requires sound { AreSound fragments.now.nodes.items }
+        requires turns { IsTurnsOver fragments.now.nodes.items turns }
+        ensures { MadeBy fragments.now.nodes.items result (turns_in fragments.now.nodes.items turns) }
     {
-        let tests = sum(self.code_size(&first)?, self.code_size(&again)?)?;
-        let rest = sum(self.size(body), self.fragments.size(step))?;
-        let size = sum(sum(tests, rest)?, JUMP + JUMP + JUMP)?;
-        self.push(
-            FlowForm::Counted {
-                first,
-                body,
-                again,
-                step,
-            },
+        let size = turns_size(&turns, fragments)?;
+        let turns = Box::new(*fragments.nodes.allocator(), turns)?;
+        Ok(Flow {
+            form: FlowForm::Counted(turns),
             size,
-        )
+        })
     }
 
     /// A statement that has a temporary cell of its own.
-    pub fn with_cell(&mut self, body: Flow) -> Result<Flow, Memory>
-        requires body { IsAmong self.now body }
-        ensures made { IsFlowMade self.old self.new result (λ t. spec_with_cell (λ u. flow_in self.old body u)) }
+    pub fn with_cell(body: Flow, alloc: Global) -> Result<Flow, Memory>
+        ensures { (ns : List Node) → IsOver ns body
+            → MadeBy ns result (λ t. spec_with_cell (λ u. flow_in ns body u)) }
     {
-        self.push(FlowForm::WithCell(body), self.size(body))
+        let size = body.size;
+        let body = Box::new(alloc, body)?;
+        Ok(Flow {
+            form: FlowForm::WithCell(body),
+            size,
+        })
     }
 
     /// Statements in a WITH, whose record's address is in the cell.
-    pub fn in_with(&mut self, body: Flow) -> Result<Flow, Memory>
-        requires body { IsAmong self.now body }
-        ensures made { IsFlowMade self.old self.new result (λ t. spec_in_with t (flow_in self.old body t)) }
+    pub fn in_with(body: Flow, alloc: Global) -> Result<Flow, Memory>
+        ensures { (ns : List Node) → IsOver ns body → MadeBy ns result (λ t. spec_in_with t (flow_in ns body t)) }
     {
-        self.push(FlowForm::InWith(body), self.size(body))
+        let size = body.size;
+        let body = Box::new(alloc, body)?;
+        Ok(Flow {
+            form: FlowForm::InWith(body),
+            size,
+        })
     }
 }

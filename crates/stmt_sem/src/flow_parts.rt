@@ -1,18 +1,19 @@
 //! Flows of whole statements, put together of several.
-ghost use Rattle.std.specs.Prelude.{◌≡◌, ◌∷◌, Some, length, IfOk};
+ghost use Rattle.std.specs.Prelude.{◌≡◌, ◌∷◌, List, IfOk};
 ghost use Rattle.m2_base.specs.Lists.{Each};
 ghost use Rattle.expr_sem.specs.Codings.{with_types};
-ghost use Rattle.expr_sem.specs.Fragments.{IsIn, part};
-ghost use Rattle.stmt_sem.specs.FlowNodes.{AreSound, IsAmong, IsArmOf, IsCodeOf, IsFlowMade, choice_among, code_by};
-ghost use Rattle.stmt_sem.specs.FlowNodes.{flow_in, flows_in};
+ghost use Rattle.expr_sem.specs.Fragments.{AreSound, IsIn, part};
+ghost use Rattle.expr_sem.specs.declared.fragments.Node.{Node};
+ghost use Rattle.stmt_sem.specs.FlowTrees.{IsArmOver, IsCodeOf, IsOver, MadeBy, arms_or, code_by, flow_in};
 ghost use Rattle.stmt_sem.specs.Flows.{in_with as spec_in_with, straight as spec_straight};
 ghost use Rattle.stmt_sem.specs.Flows.{with_cell as spec_with_cell, ◌⨾◌};
 ghost use Rattle.stmt_sem.specs.Stated.{answer_of};
 ghost use Rattle.stmt_sem.specs.StatementParts.{stored_before as spec_stored};
 
-use crate::flows::{Arm, Code, Flow, Flows};
-use expr_sem::{Fragment, With};
+use crate::flows::{Arm, Code, Flow};
+use expr_sem::{Fragment, Fragments, With};
 use m2_base::{Ask, Memory, Place};
+use std::alloc::Global;
 
 /// A flow that was made, as a known answer.
 pub fn answered(made: Result<Flow, Memory>) -> Result<Ask<Flow>, Memory>
@@ -25,28 +26,28 @@ pub fn answered(made: Result<Flow, Memory>) -> Result<Ask<Flow>, Memory>
 }
 
 /// One flow behind another.
-pub fn behind(first: Flow, second: Flow, flows: &mut Flows) -> Result<Flow, Memory>
-    requires first { IsAmong flows.old first }
-    requires second { IsAmong flows.old second }
-    ensures { IsFlowMade flows.old flows.new result (λ t. flow_in flows.old first t ⨾ flow_in flows.old second t) }
+pub fn behind(first: Flow, second: Flow, alloc: Global) -> Result<Flow, Memory>
+    ensures { (ns : List Node) → IsOver ns first → IsOver ns second
+        → MadeBy ns result (λ t. flow_in ns first t ⨾ flow_in ns second t) }
 {
-    let mut both = Vec::new(*flows.nodes.allocator());
+    let mut both = Vec::new(alloc);
     both.push(first)?;
     both.push(second)?;
-    flows.block(both)
+    Flow::block(both)
 }
 
 /// Code that may use a cell, and a flow behind it, in a statement that has this cell of its own.
-pub fn celled(code: Code, rest: Flow, flows: &mut Flows) -> Result<Flow, Memory>
-    requires sound { AreSound flows.old }
-    requires code { IsCodeOf flows.old.fragments.nodes.items code }
-    requires rest { IsAmong flows.old rest }
-    ensures { IsFlowMade flows.old flows.new result (λ u. spec_with_cell
-        (λ t. spec_straight (code_by flows.old.fragments.nodes.items code t) ⨾ flow_in flows.old rest t)) }
+pub fn celled(code: Code, rest: Flow, fragments: &Fragments) -> Result<Flow, Memory>
+    requires sound { AreSound fragments.now.nodes.items }
+    requires code { IsCodeOf fragments.now.nodes.items code }
+    requires rest { IsOver fragments.now.nodes.items rest }
+    ensures { MadeBy fragments.now.nodes.items result (λ u. spec_with_cell (λ t.
+        spec_straight (code_by fragments.now.nodes.items code t) ⨾ flow_in fragments.now.nodes.items rest t)) }
 {
-    let first = flows.straight(code)?;
-    let both = behind(first, rest, flows)?;
-    flows.with_cell(both)
+    let alloc = *fragments.nodes.allocator();
+    let first = Flow::straight(code, fragments)?;
+    let both = behind(first, rest, alloc)?;
+    Flow::with_cell(both, alloc)
 }
 
 /// The arms and ELSE of a CASE whose selector has this value.
@@ -54,36 +55,37 @@ pub fn case_made(
     value: Fragment,
     arms: Vec<Arm>,
     other: Flow,
-    flows: &mut Flows,
+    fragments: &Fragments,
 ) -> Result<Flow, Memory>
-    requires sound { AreSound flows.old }
-    requires value { IsIn flows.old.fragments.nodes.items value }
-    requires arms { Each (IsArmOf flows.old.fragments.nodes.items (length flows.old.nodes.items)) arms.items }
-    requires other { IsAmong flows.old other }
-    ensures { IsFlowMade flows.old flows.new result (λ u. spec_stored (part flows.old.fragments.nodes.items value)
-        (choice_among flows.old.fragments.nodes.items (flows_in flows.old) arms.items (Some other))) }
+    requires sound { AreSound fragments.now.nodes.items }
+    requires value { IsIn fragments.now.nodes.items value }
+    requires arms { Each (IsArmOver fragments.now.nodes.items) arms.items }
+    requires other { IsOver fragments.now.nodes.items other }
+    ensures { MadeBy fragments.now.nodes.items result (λ u. spec_stored (part fragments.now.nodes.items value)
+        (arms_or fragments.now.nodes.items arms.items (flow_in fragments.now.nodes.items other))) }
 {
-    let choice = flows.choice(arms, Some(other))?;
-    celled(Code::Stored(value), choice, flows)
+    let other = Box::new(*fragments.nodes.allocator(), other)?;
+    let choice = Flow::choice(arms, Some(other), fragments)?;
+    celled(Code::Stored(value), choice, fragments)
 }
 
 /// The statements in a WITH of the record whose address this code gives.
-pub fn with_made(address: Fragment, body: Flow, flows: &mut Flows) -> Result<Flow, Memory>
-    requires sound { AreSound flows.old }
-    requires address { IsIn flows.old.fragments.nodes.items address }
-    requires body { IsAmong flows.old body }
-    ensures { IsFlowMade flows.old flows.new result (λ u.
-        spec_stored (part flows.old.fragments.nodes.items address) (λ t. spec_in_with t (flow_in flows.old body t))) }
+pub fn with_made(address: Fragment, body: Flow, fragments: &Fragments) -> Result<Flow, Memory>
+    requires sound { AreSound fragments.now.nodes.items }
+    requires address { IsIn fragments.now.nodes.items address }
+    requires body { IsOver fragments.now.nodes.items body }
+    ensures { MadeBy fragments.now.nodes.items result (λ u. spec_stored (part fragments.now.nodes.items address)
+        (λ t. spec_in_with t (flow_in fragments.now.nodes.items body t))) }
 {
-    let inner = flows.in_with(body)?;
-    celled(Code::Stored(address), inner, flows)
+    let inner = Flow::in_with(body, *fragments.nodes.allocator())?;
+    celled(Code::Stored(address), inner, fragments)
 }
 
 /// The open WITHs, and one more within them. Its cell isn't known yet.
-pub fn opened(withs: &[With], of: Place, flows: &Flows) -> Result<Vec<With>, Memory>
+pub fn opened(withs: &[With], of: Place, alloc: Global) -> Result<Vec<With>, Memory>
     ensures { IfOk result (λ more. with_types more.items ≡ of ∷ with_types withs.now) }
 {
-    let mut more = Vec::new(*flows.nodes.allocator());
+    let mut more = Vec::new(alloc);
     more.push(With { of, cell: 0 })?;
     more.extend_from_slice(withs)?;
     Ok(more)

@@ -1,17 +1,18 @@
 //! The length of a flow's code: it depends neither on where the code stands nor on the temporary cell.
-ghost use Rattle.std.specs.Prelude.{◌≡◌, ℕ, ◌+◌, IfOk, length, map};
+ghost use Rattle.std.specs.Prelude.{◌≡◌, ℕ, ◌+◌, List, IfOk, map};
 ghost use Rattle.m2_base.specs.Lists.{Each};
 ghost use Rattle.stmt_sem.specs.Cases.{label_code, labels_code};
 ghost use Rattle.case_labels.specs.Seen.{test_seen};
-ghost use Rattle.stmt_sem.specs.FlowNodes.{AreSound, IsAmong, IsArmOf, IsBeforeIfAny, IsCodeOf, Measures};
-ghost use Rattle.stmt_sem.specs.FlowNodes.{MeasuresPart, block_among, choice_among, code_by, flow_in, flows_in};
-ghost use Rattle.stmt_sem.specs.FlowNodes.{other_among};
+ghost use Rattle.expr_sem.specs.Fragments.{AreSound};
+ghost use Rattle.expr_sem.specs.declared.fragments.Node.{Node};
+ghost use Rattle.stmt_sem.specs.FlowTrees.{IsArmOver, IsCodeOf, IsOverIfAny, IsTurnsOver, Measures, MeasuresPart};
+ghost use Rattle.stmt_sem.specs.FlowTrees.{choice_among, code_by, other_among, turns_in};
 ghost use Rattle.stmt_sem.specs.FlowPieces.{Over};
-ghost use Rattle.stmt_sem.specs.FlowSizes.{arm_bytes, arms_bytes, flow_bytes, label_bytes, labels_bytes};
+ghost use Rattle.stmt_sem.specs.FlowSizes.{arm_bytes, arms_bytes, block_bytes, label_bytes, labels_bytes};
 
-use crate::flows::{Arm, Code, Flow, Flows};
+use crate::flows::{Arm, Code, Flow, Turns};
 use case_labels::LabelTest;
-use expr_sem::Step;
+use expr_sem::{Fragments, Step};
 use m2_base::Memory;
 
 /// The length of a jump in bytes.
@@ -60,90 +61,95 @@ fn labels_size(labels: &[LabelTest]) -> Result<u64, Memory>
     Ok(all_labels_size(labels)?.saturating_sub(JUMP))
 }
 
-impl Flows {
-    /// The length of a flow's code in bytes.
-    pub fn size(&self, flow: Flow) -> u64
-        requires there { IsAmong self.now flow }
-        ensures size { AreSound self.now → Measures (flow_in self.now flow) result }
-        ensures bytes { AreSound self.now → result ≡ flow_bytes self.now flow }
-    {
-        match flow {
-            Flow::Nothing => 0,
-            Flow::Node(number) => self.nodes[number as usize].size,
-        }
-    }
-
+impl Code {
     /// The length of a statement's own code in bytes.
-    pub fn code_size(&self, code: &Code) -> Result<u64, Memory>
-        requires there { IsCodeOf self.now.fragments.nodes.items code.now }
-        ensures { AreSound self.now
-            → IfOk result (λ n. MeasuresPart (code_by self.now.fragments.nodes.items code.now) n) }
+    pub fn size(&self, fragments: &Fragments) -> Result<u64, Memory>
+        requires sound { AreSound fragments.now.nodes.items }
+        requires there { IsCodeOf fragments.now.nodes.items self.now }
+        ensures { IfOk result (λ n. MeasuresPart (code_by fragments.now.nodes.items self.now) n) }
     {
-        match code {
-            Code::Fixed(fragment) => Ok(self.fragments.size(*fragment)),
-            Code::Stored(fragment) => sum(self.fragments.size(*fragment), 10),
+        match self {
+            Code::Fixed(fragment) => Ok(fragments.size(*fragment)),
+            Code::Stored(fragment) => sum(fragments.size(*fragment), 10),
             Code::Compared(fragment, instr) => {
-                let compared = sum(self.fragments.size(*fragment), 11)?;
+                let compared = sum(fragments.size(*fragment), 11)?;
                 sum(compared, Step::plain(*instr).size())
             }
             Code::Labels(labels) => labels_size(labels),
         }
     }
+}
 
-    /// The length of flows one after another.
-    pub fn block_size(&self, flows: &[Flow]) -> Result<u64, Memory>
-        requires there { Each (λ x. IsAmong self.now x) flows.now }
-        ensures { AreSound self.now → IfOk result (λ n. Measures (block_among (flows_in self.now) flows.now) n) }
-    {
-        let mut total: u64 = 0;
-        for flow in flows {
-            total = sum(total, self.size(*flow))?;
-        }
-        Ok(total)
+/// The length of flows one after another.
+pub fn block_size(flows: &[Flow]) -> Result<u64, Memory>
+    ensures { IfOk result (λ n. n ≡ block_bytes flows.now) }
+{
+    let mut total: u64 = 0;
+    for flow in flows {
+        total = sum(total, flow.size)?;
     }
+    Ok(total)
+}
 
+impl Arm {
     /// The length of an arm with its two jumps.
-    pub fn arm_size(&self, arm: &Arm) -> Result<u64, Memory>
-        requires there { IsArmOf self.now.fragments.nodes.items (length self.now.nodes.items) arm.now }
-        ensures { AreSound self.now → IfOk result (λ n. n ≡ arm_bytes self.now arm.now) }
+    pub fn size(&self, fragments: &Fragments) -> Result<u64, Memory>
+        requires sound { AreSound fragments.now.nodes.items }
+        requires there { IsArmOver fragments.now.nodes.items self.now }
+        ensures { IfOk result (λ n. n ≡ arm_bytes fragments.now.nodes.items self.now) }
     {
         let jumps = JUMP + JUMP;
-        let test = sum(self.code_size(&arm.test)?, jumps)?;
-        sum(test, self.size(arm.body))
+        let test = sum(self.test.size(fragments)?, jumps)?;
+        sum(test, self.body.size)
     }
+}
 
-    /// The length of arms, each with two jumps.
-    pub fn arms_size(&self, arms: &[Arm]) -> Result<u64, Memory>
-        requires there { Each (IsArmOf self.now.fragments.nodes.items (length self.now.nodes.items)) arms.now }
-        ensures { AreSound self.now → IfOk result (λ n. n ≡ arms_bytes self.now arms.now) }
-    {
-        let mut total: u64 = 0;
-        for arm in arms {
-            total = sum(total, self.arm_size(arm)?)?;
-        }
-        Ok(total)
+/// The length of arms, each with two jumps.
+pub fn arms_size(arms: &[Arm], fragments: &Fragments) -> Result<u64, Memory>
+    requires sound { AreSound fragments.now.nodes.items }
+    requires there { Each (IsArmOver fragments.now.nodes.items) arms.now }
+    ensures { IfOk result (λ n. n ≡ arms_bytes fragments.now.nodes.items arms.now) }
+{
+    let mut total: u64 = 0;
+    for arm in arms {
+        total = sum(total, arm.size(fragments)?)?;
     }
+    Ok(total)
+}
 
-    /// The length of what stands where no arm is taken, with a jump before it.
-    pub fn other_size(&self, other: Option<Flow>) -> Result<u64, Memory>
-        requires there { IsBeforeIfAny (length self.now.nodes.items) other }
-        ensures { AreSound self.now
-            → IfOk result (λ n. (cell : ℕ) → Over (other_among (flows_in self.now) other cell) n) }
-    {
-        match other {
-            Some(flow) => sum(self.size(flow), JUMP),
-            None => Ok(0),
-        }
+/// The length of what stands where no arm is taken, with a jump before it.
+pub fn other_size(other: &Option<Box<Flow>>) -> Result<u64, Memory>
+    ensures { (ns : List Node) → IsOverIfAny ns other.now
+        → IfOk result (λ n. (cell : ℕ) → Over (other_among ns other.now cell) n) }
+{
+    match other {
+        Some(flow) => sum(flow.size, JUMP),
+        None => Ok(0),
     }
+}
 
-    /// The length of arms and of what stands where none is taken.
-    pub fn choice_size(&self, arms: &[Arm], other: Option<Flow>) -> Result<u64, Memory>
-        requires arms { Each (IsArmOf self.now.fragments.nodes.items (length self.now.nodes.items)) arms.now }
-        requires other { IsBeforeIfAny (length self.now.nodes.items) other }
-        ensures { AreSound self.now → IfOk result
-            (λ n. Measures (choice_among self.now.fragments.nodes.items (flows_in self.now) arms.now other) n) }
-    {
-        let total = sum(self.arms_size(arms)?, self.other_size(other)?)?;
-        Ok(total.saturating_sub(JUMP))
-    }
+/// The length of arms and of what stands where none is taken.
+pub fn choice_size(
+    arms: &[Arm],
+    other: &Option<Box<Flow>>,
+    fragments: &Fragments,
+) -> Result<u64, Memory>
+    requires sound { AreSound fragments.now.nodes.items }
+    requires arms { Each (IsArmOver fragments.now.nodes.items) arms.now }
+    requires other { IsOverIfAny fragments.now.nodes.items other.now }
+    ensures { IfOk result (λ n. Measures (choice_among fragments.now.nodes.items arms.now other.now) n) }
+{
+    let total = sum(arms_size(arms, fragments)?, other_size(other)?)?;
+    Ok(total.saturating_sub(JUMP))
+}
+
+/// The length of a loop that counts.
+pub fn turns_size(turns: &Turns, fragments: &Fragments) -> Result<u64, Memory>
+    requires sound { AreSound fragments.now.nodes.items }
+    requires there { IsTurnsOver fragments.now.nodes.items turns.now }
+    ensures { IfOk result (λ n. Measures (turns_in fragments.now.nodes.items turns.now) n) }
+{
+    let tests = sum(turns.first.size(fragments)?, turns.again.size(fragments)?)?;
+    let rest = sum(turns.body.size, fragments.size(turns.step))?;
+    sum(sum(tests, rest)?, JUMP + JUMP + JUMP)
 }

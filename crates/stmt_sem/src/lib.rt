@@ -71,7 +71,7 @@ mod withs;
 
 pub use bodies::Body;
 pub use flow_appending::append_flow;
-pub use flows::{Arm, Code, Flow, FlowForm, FlowNode, Flows};
+pub use flows::{Arm, Code, Flow, FlowForm, Turns};
 pub use laws::{code_is_short, code_is_valid, heights_are_right, returns_agree};
 pub use procedure_codes::procedure_code;
 pub use stands::Stand;

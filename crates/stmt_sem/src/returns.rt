@@ -14,7 +14,7 @@ ghost use Rattle.type_rules.specs.Sites.{SuitsSite};
 ghost use Rattle.stmt_sem.specs.Returns.{return_alone as spec_alone, return_code as spec_return};
 ghost use Rattle.stmt_sem.specs.Returns.{return_value as spec_value, returned as spec_returned};
 ghost use Rattle.stmt_sem.specs.Stands.{IsStand};
-ghost use Rattle.stmt_sem.specs.Walkers.{Codes, Keeps, KeepsNodes, frame_of, nodes_of};
+ghost use Rattle.stmt_sem.specs.Walkers.{Codes, Keeps, frame_of, nodes_of};
 
 use crate::refusals::refused_code;
 use crate::stands::Stand;
@@ -118,19 +118,12 @@ impl<S: Scopes> Walker<'_, S> {
         requires of { IsThere (frame_of S.state self.old) of }
         requires x { IsCoded (frame_of S.state self.old) (nodes_of self.old) x.coded }
         ensures keeps { Keeps self.old self.new }
-        ensures nodes { KeepsNodes self.old self.new }
         ensures codes { Codes S.state self.old self.new stand.now result IsFragment part
             (λ s. and_then (spec_assigned s.context of x.at not_assignable (coded_in (nodes_of self.old) x.coded))
             (λ v. gives (spec_returned s.context of v))) }
     {
         let value = analysed!(self.assigned_to(stand, of, Diagnostic::NotAssignable, x));
-        returned(
-            self.scopes,
-            stand.site,
-            of,
-            value,
-            &mut self.flows.fragments,
-        )
+        returned(self.scopes, stand.site, of, value, self.fragments)
     }
 
     /// RETURN with a value.
@@ -143,7 +136,6 @@ impl<S: Scopes> Walker<'_, S> {
         requires stand { IsStand (frame_of S.state self.old) stand.now }
         requires x { IsCoded (frame_of S.state self.old) (nodes_of self.old) x.coded }
         ensures keeps { Keeps self.old self.new }
-        ensures nodes { KeepsNodes self.old self.new }
         ensures codes { Codes S.state self.old self.new stand.now result IsFragment part
             (λ s. spec_value s.context at s.result x.at (coded_in (nodes_of self.old) x.coded)) }
     {

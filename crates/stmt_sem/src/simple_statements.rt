@@ -1,5 +1,5 @@
 //! Statements that have no statements within them.
-ghost use Rattle.std.specs.Prelude.{map, option_map};
+ghost use Rattle.std.specs.Prelude.{List, map, option_map};
 ghost use Rattle.m2_base.specs.Statics.ReadTrees.{AreReadExprs, IsReadDesignator, IsReadExpr};
 ghost use Rattle.m2_base.specs.Trees.{assign_form, call_statement as spec_call, exprs, return_form};
 ghost use Rattle.m2_base.specs.Views.{designator_view, expr_view};
@@ -8,22 +8,24 @@ ghost use Rattle.m2_base.specs.States.{State};
 ghost use Rattle.m2_base.specs.declared.notes.Notes.{Notes as NotesOf};
 ghost use Rattle.m2_base.specs.declared.sites.Site.{Site as SiteOf};
 ghost use Rattle.stmt_sem.specs.Cases.{no_case as spec_none};
-ghost use Rattle.stmt_sem.specs.FlowNodes.{AreSound, flow_in};
+ghost use Rattle.expr_sem.specs.Fragments.{AreSound};
+ghost use Rattle.expr_sem.specs.declared.fragments.Node.{Node};
+ghost use Rattle.stmt_sem.specs.FlowTrees.{flow_in};
 ghost use Rattle.stmt_sem.specs.Flows.{straight};
 ghost use Rattle.stmt_sem.specs.Flowings.{Flowing, IsFlow};
 ghost use Rattle.m2_base.specs.Statics.ReadStatements.{IsReadExprOption};
 ghost use Rattle.stmt_sem.specs.StatementParts.{form_of};
 ghost use Rattle.stmt_sem.specs.Stands.{IsStand, names_of, stand_in};
 ghost use Rattle.stmt_sem.specs.Statements.{exit_of, form_flow};
-ghost use Rattle.stmt_sem.specs.Walkers.{Keeps, Walks, frame_of};
+ghost use Rattle.stmt_sem.specs.Walkers.{Keeps, Walks, frame_of, nodes_of};
 
 use crate::cases::no_case;
 use crate::flow_parts::answered;
-use crate::flows::{Code, Flow, Flows};
+use crate::flows::{Code, Flow};
 use crate::refusals::noted;
 use crate::stands::Stand;
 use crate::walker::Walker;
-use expr_sem::Placed;
+use expr_sem::{Fragments, Placed};
 use m2_base::{Ask, Designator, Diagnostic, Expr, Memory, Notes, Scopes};
 
 impl<S: Scopes> Walker<'_, S> {
@@ -35,7 +37,7 @@ impl<S: Scopes> Walker<'_, S> {
         value: &Expr,
     ) -> Result<Ask<Flow>, Memory>
         requires stand { IsStand (frame_of S.state self.old) stand.now }
-        requires sound { AreSound self.old.flows.now }
+        requires sound { AreSound (nodes_of self.old) }
         requires to { IsReadDesignator (names_of stand.now) (designator_view to.now) }
         requires value { IsReadExpr (names_of stand.now) (expr_view value.now) }
         ensures keeps { Keeps self.old self.new }
@@ -49,7 +51,7 @@ impl<S: Scopes> Walker<'_, S> {
             coded,
         };
         let code = analysed!(self.assignment(stand, variable, x));
-        answered(self.flows.straight(Code::Fixed(code)))
+        answered(Flow::straight(Code::Fixed(code), self.fragments))
     }
 
     /// A call.
@@ -60,7 +62,7 @@ impl<S: Scopes> Walker<'_, S> {
         args: &[Expr],
     ) -> Result<Ask<Flow>, Memory>
         requires stand { IsStand (frame_of S.state self.old) stand.now }
-        requires sound { AreSound self.old.flows.now }
+        requires sound { AreSound (nodes_of self.old) }
         requires to { IsReadDesignator (names_of stand.now) (designator_view to.now) }
         requires args { AreReadExprs (names_of stand.now) (exprs (map expr_view args.now)) }
         ensures keeps { Keeps self.old self.new }
@@ -68,7 +70,7 @@ impl<S: Scopes> Walker<'_, S> {
             (λ s. form_of s (spec_call (designator_view to.now) (exprs (map expr_view args.now)))) }
     {
         let code = analysed!(self.called(stand, to, args));
-        answered(self.flows.straight(Code::Fixed(code)))
+        answered(Flow::straight(Code::Fixed(code), self.fragments))
     }
 
     /// RETURN.
@@ -79,40 +81,35 @@ impl<S: Scopes> Walker<'_, S> {
         value: &Option<Expr>,
     ) -> Result<Ask<Flow>, Memory>
         requires stand { IsStand (frame_of S.state self.old) stand.now }
-        requires sound { AreSound self.old.flows.now }
+        requires sound { AreSound (nodes_of self.old) }
         requires value { IsReadExprOption (names_of stand.now) (option_map expr_view value.now) }
         ensures keeps { Keeps self.old self.new }
         ensures walks { Walks S.state self.old self.new stand.now result IsFlow flow_in
             (λ s. form_flow s at (return_form (option_map expr_view value.now))) }
     {
         let code = analysed!(self.returned(stand, at, value));
-        answered(self.flows.straight(Code::Fixed(code)))
+        answered(Flow::straight(Code::Fixed(code), self.fragments))
     }
 }
 
 /// EXIT, which stands within a LOOP.
-pub fn exit_statement(
-    stand: &Stand,
-    at: u32,
-    flows: &mut Flows,
-    notes: &mut Notes,
-) -> Result<Ask<Flow>, Memory>
-    ensures { (state : State) → Flowing state state notes.old notes.new flows.old flows.new stand.now.site.now result
-        IsFlow flow_in (λ c. exit_of (stand_in c stand.now) at) }
+pub fn exit_statement(stand: &Stand, at: u32, notes: &mut Notes) -> Result<Ask<Flow>, Memory>
+    ensures { (state : State) (nodes : List Node) → Flowing state state notes.old notes.new nodes nodes
+        stand.now.site.now result IsFlow flow_in (λ c. exit_of (stand_in c stand.now) at) }
 {
     if stand.looped {
-        return answered(flows.exit());
+        return Ok(Ask::Known(Flow::exit()));
     }
     noted(stand.site, at, Diagnostic::ExitOutsideLoop, notes)?;
-    Ok(Ask::Known(Flow::Nothing))
+    Ok(Ask::Known(Flow::nothing()))
 }
 
 /// What stands where no label of a CASE holds and there is no ELSE.
-pub fn no_case_else(flows: &mut Flows) -> Result<Ask<Flow>, Memory>
-    requires sound { AreSound flows.old }
-    ensures { (state : State) (notes : NotesOf) (s : SiteOf) → Flowing state state notes notes flows.old flows.new s
-        result IsFlow flow_in (λ c. gives (straight spec_none)) }
+pub fn no_case_else(fragments: &mut Fragments) -> Result<Ask<Flow>, Memory>
+    requires sound { AreSound fragments.old.nodes.items }
+    ensures { (state : State) (notes : NotesOf) (s : SiteOf) → Flowing state state notes notes
+        fragments.old.nodes.items fragments.new.nodes.items s result IsFlow flow_in (λ c. gives (straight spec_none)) }
 {
-    let trap = no_case(&mut flows.fragments)?;
-    answered(flows.straight(Code::Fixed(trap)))
+    let trap = no_case(fragments)?;
+    answered(Flow::straight(Code::Fixed(trap), fragments))
 }

@@ -11,7 +11,7 @@ ghost use Rattle.stmt_sem.specs.StatementParts.{called as spec_called, record_of
 ghost use Rattle.stmt_sem.specs.StatementParts.{selector as spec_selector, typed_selector as spec_typed};
 ghost use Rattle.stmt_sem.specs.Statements.{return_of, test as spec_test, variable as spec_variable};
 ghost use Rattle.stmt_sem.specs.Taken.{IsSelector, selector_in};
-ghost use Rattle.stmt_sem.specs.Walkers.{Codes, Keeps, KeepsNodes, frame_of, nodes_of};
+ghost use Rattle.stmt_sem.specs.Walkers.{Codes, Keeps, frame_of, nodes_of};
 
 use crate::assignments::code_unless_bad;
 use crate::cases::{Selected, selector_type, selector_value};
@@ -28,7 +28,6 @@ impl<S: Scopes> Walker<'_, S> {
         requires stand { IsStand (frame_of S.state self.old) stand.now }
         requires of { IsReadDesignator (names_of stand.now) (designator_view of.now) }
         ensures keeps { Keeps self.old self.new }
-        ensures nodes { KeepsNodes self.old self.new }
         ensures codes { Codes S.state self.old self.new stand.now result IsCoded coded_in
             (λ s. spec_variable s (designator_view of.now)) }
     {
@@ -41,7 +40,6 @@ impl<S: Scopes> Walker<'_, S> {
         requires stand { IsStand (frame_of S.state self.old) stand.now }
         requires e { IsReadExpr (names_of stand.now) (expr_view e.now) }
         ensures keeps { Keeps self.old self.new }
-        ensures nodes { KeepsNodes self.old self.new }
         ensures codes { Codes S.state self.old self.new stand.now result IsFragment part
             (λ s. spec_test s (expr_view e.now)) }
     {
@@ -61,7 +59,6 @@ impl<S: Scopes> Walker<'_, S> {
         requires of { IsReadDesignator (names_of stand.now) (designator_view of.now) }
         requires args { AreReadExprs (names_of stand.now) (exprs (map expr_view args.now)) }
         ensures keeps { Keeps self.old self.new }
-        ensures nodes { KeepsNodes self.old self.new }
         ensures codes { Codes S.state self.old self.new stand.now result IsFragment part
             (λ s. spec_called s (designator_view of.now) (exprs (map expr_view args.now))) }
     {
@@ -79,18 +76,11 @@ impl<S: Scopes> Walker<'_, S> {
         requires stand { IsStand (frame_of S.state self.old) stand.now }
         requires value { IsReadExprOption (names_of stand.now) (option_map expr_view value.now) }
         ensures keeps { Keeps self.old self.new }
-        ensures nodes { KeepsNodes self.old self.new }
         ensures codes { Codes S.state self.old self.new stand.now result IsFragment part
             (λ s. return_of s at (option_map expr_view value.now)) }
     {
         match value {
-            None => return_alone(
-                stand.site,
-                at,
-                stand.result,
-                &mut self.flows.fragments,
-                self.notes,
-            ),
+            None => return_alone(stand.site, at, stand.result, self.fragments, self.notes),
             Some(e) => {
                 let coded = analysed!(self.value_of(stand, e));
                 let x = Placed { at: e.at, coded };
@@ -104,17 +94,11 @@ impl<S: Scopes> Walker<'_, S> {
         requires stand { IsStand (frame_of S.state self.old) stand.now }
         requires x { IsCoded (frame_of S.state self.old) (nodes_of self.old) x.coded }
         ensures keeps { Keeps self.old self.new }
-        ensures nodes { KeepsNodes self.old self.new }
         ensures codes { Codes S.state self.old self.new stand.now result IsSelector selector_in
             (λ s. spec_typed s x.at (coded_in (nodes_of self.old) x.coded)) }
     {
         let of = analysed!(selector_type(self.scopes, stand.site, x.at, x.coded, self.notes));
-        let value = analysed!(selector_value(
-            self.scopes,
-            stand.site,
-            x.coded,
-            &mut self.flows.fragments
-        ));
+        let value = analysed!(selector_value(self.scopes, stand.site, x.coded, self.fragments));
         Ok(Ask::Known(Selected { value, of }))
     }
 
@@ -123,7 +107,6 @@ impl<S: Scopes> Walker<'_, S> {
         requires stand { IsStand (frame_of S.state self.old) stand.now }
         requires e { IsReadExpr (names_of stand.now) (expr_view e.now) }
         ensures keeps { Keeps self.old self.new }
-        ensures nodes { KeepsNodes self.old self.new }
         ensures codes { Codes S.state self.old self.new stand.now result IsSelector selector_in
             (λ s. spec_selector s (expr_view e.now)) }
     {
@@ -137,7 +120,6 @@ impl<S: Scopes> Walker<'_, S> {
         requires stand { IsStand (frame_of S.state self.old) stand.now }
         requires of { IsReadDesignator (names_of stand.now) (designator_view of.now) }
         ensures keeps { Keeps self.old self.new }
-        ensures nodes { KeepsNodes self.old self.new }
         ensures codes { Codes S.state self.old self.new stand.now result IsCoded coded_in
             (λ s. spec_record s (designator_view of.now)) }
     {

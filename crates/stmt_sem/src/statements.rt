@@ -7,9 +7,9 @@ ghost use Rattle.m2_base.specs.Views.{statement_view};
 ghost use Rattle.m2_base.specs.Statics.Operands.{is_bad as spec_bad};
 ghost use Rattle.m2_base.specs.Statics.ReadTrees.{IsReadDesignator, IsReadExpr};
 ghost use Rattle.expr_sem.specs.Codings.{IsCoded, coded_in};
-ghost use Rattle.expr_sem.specs.Fragments.{part};
+ghost use Rattle.expr_sem.specs.Fragments.{AreSound, part};
 ghost use Rattle.type_rules.specs.Scenes.{IsThere};
-ghost use Rattle.stmt_sem.specs.FlowNodes.{AreSound, flow_in};
+ghost use Rattle.stmt_sem.specs.FlowTrees.{flow_in};
 ghost use Rattle.stmt_sem.specs.Flowings.{Flowing, IsFlow};
 ghost use Rattle.m2_base.specs.Statics.ReadStatements.{AreReadCaseArms, AreReadIfArms, AreReadStatements};
 ghost use Rattle.m2_base.specs.Statics.ReadStatements.{IsReadCaseArm, IsReadCaseElse, IsReadExprOption, IsReadIfArm};
@@ -27,13 +27,13 @@ ghost use Rattle.stmt_sem.specs.Walkers.{Keeps, Walks, frame_of, nodes_of};
 use crate::cases::Selected;
 use crate::counting::{Count, check_step, emit_for};
 use crate::flow_parts::{answered, case_made, opened, with_made};
-use crate::flows::{Arm, Code, Flow, Flows};
+use crate::flows::{Arm, Code, Flow};
 use crate::simple_statements::{exit_statement, no_case_else};
 use crate::stands::Stand;
 use crate::walker::Walker;
 use case_labels::{Coverage, Covered, case_labels};
 use const_eval::is_bad;
-use expr_sem::Coded;
+use expr_sem::{Coded, Fragments};
 use m2_base::{
     Ask, CaseArm, Designator, Expr, Ident, IfArm, Memory, Notes, Place, Scopes, Statement, StmtForm,
 };
@@ -59,7 +59,7 @@ impl<S: Scopes> Walker<'_, S> {
     #[cycle(statements)]
     pub fn statement(&mut self, stand: &Stand, of: &Statement) -> Result<Ask<Flow>, Memory>
         requires stand { IsStand (frame_of S.state self.old) stand.now }
-        requires sound { AreSound self.old.flows.now }
+        requires sound { AreSound (nodes_of self.old) }
         requires read { IsReadStatement (names_of stand.now) (statement_view of.now) }
         ensures keeps { Keeps self.old self.new }
         ensures walks { Walks S.state self.old self.new stand.now result IsFlow flow_in
@@ -70,7 +70,7 @@ impl<S: Scopes> Walker<'_, S> {
             StmtForm::Call { to, args } => { self.called_statement(stand, to, args) }
             StmtForm::If { arms, other } => { self.if_statement(stand, arms, other) }
             StmtForm::Loop(body) => self.loop_statement(stand, body),
-            StmtForm::Exit => exit_statement(stand, of.at, self.flows, self.notes),
+            StmtForm::Exit => exit_statement(stand, of.at, self.notes),
             StmtForm::Case { value, arms, other } => {
                 self.case_statement(stand, value, arms, other)
             }
@@ -88,7 +88,7 @@ impl<S: Scopes> Walker<'_, S> {
             }
             StmtForm::With { of, body } => { self.with_statement(stand, of, body) }
             StmtForm::Return(value) => { self.return_statement(stand, of.at, value) }
-            StmtForm::Empty => Ok(Ask::Known(Flow::Nothing)),
+            StmtForm::Empty => Ok(Ask::Known(Flow::nothing())),
         }
     }
 
@@ -100,13 +100,13 @@ impl<S: Scopes> Walker<'_, S> {
         body: &[Statement],
     ) -> Result<Ask<Vec<Flow>>, Memory>
         requires stand { IsStand (frame_of S.state self.old) stand.now }
-        requires sound { AreSound self.old.flows.now }
+        requires sound { AreSound (nodes_of self.old) }
         requires read { AreReadStatements (names_of stand.now) (spec_list (map statement_view body.now)) }
         ensures keeps { Keeps self.old self.new }
         ensures walks { Walks S.state self.old self.new stand.now result AreFlows block_in
             (λ s. statements_onto s (λ rest. rest) (spec_list (map statement_view body.now))) }
     {
-        let mut made = Vec::new(*self.flows.nodes.allocator());
+        let mut made = Vec::new(*self.fragments.nodes.allocator());
         for of in body.iter() {
             let flow = analysed!(self.statement(stand, of));
             made.push(flow)?;
@@ -115,7 +115,7 @@ impl<S: Scopes> Walker<'_, S> {
     }
 
     /// Statements one after another, from the same stand: one flow of all of theirs, in text order. It waits where the
-    /// first of them does, and what was added to `flows` and to the notes is of no use then.
+    /// first of them does, and what was added to the fragments and to the notes is of no use then.
     #[cycle(statements)]
     pub(crate) fn statements(
         &mut self,
@@ -123,21 +123,25 @@ impl<S: Scopes> Walker<'_, S> {
         body: &[Statement],
     ) -> Result<Ask<Flow>, Memory>
         requires stand { IsStand (frame_of S.state self.old) stand.now }
-        requires sound { AreSound self.old.flows.now }
+        requires sound { AreSound (nodes_of self.old) }
         requires read { AreReadStatements (names_of stand.now) (spec_list (map statement_view body.now)) }
         ensures keeps { Keeps self.old self.new }
         ensures walks { Walks S.state self.old self.new stand.now result IsFlow flow_in
             (λ s. flow_of s (spec_list (map statement_view body.now))) }
     {
         let made = analysed!(self.statements_made(stand, body));
-        answered(self.flows.block(made))
+        answered(Flow::block(made))
     }
 
     /// What stands after ELSE of an IF, if there are statements.
     #[cycle(statements)]
-    fn otherwise(&mut self, stand: &Stand, body: &[Statement]) -> Result<Ask<Option<Flow>>, Memory>
+    fn otherwise(
+        &mut self,
+        stand: &Stand,
+        body: &[Statement],
+    ) -> Result<Ask<Option<Box<Flow>>>, Memory>
         requires stand { IsStand (frame_of S.state self.old) stand.now }
-        requires sound { AreSound self.old.flows.now }
+        requires sound { AreSound (nodes_of self.old) }
         requires read { AreReadStatements (names_of stand.now) (spec_list (map statement_view body.now)) }
         ensures keeps { Keeps self.old self.new }
         ensures walks { Walks S.state self.old self.new stand.now result IsOther other_in
@@ -147,14 +151,15 @@ impl<S: Scopes> Walker<'_, S> {
             return Ok(Ask::Known(None));
         }
         let flow = analysed!(self.statements(stand, body));
-        Ok(Ask::Known(Some(flow)))
+        let held = Box::new(*self.fragments.nodes.allocator(), flow)?;
+        Ok(Ask::Known(Some(held)))
     }
 
     /// One arm of an IF.
     #[cycle(statements)]
     fn if_arm(&mut self, stand: &Stand, arm: &IfArm) -> Result<Ask<Arm>, Memory>
         requires stand { IsStand (frame_of S.state self.old) stand.now }
-        requires sound { AreSound self.old.flows.now }
+        requires sound { AreSound (nodes_of self.old) }
         requires read { IsReadIfArm (names_of stand.now) (if_arm_view arm.now) }
         ensures keeps { Keeps self.old self.new }
         ensures walks { Walks S.state self.old self.new stand.now result IsArm arm_in
@@ -172,13 +177,13 @@ impl<S: Scopes> Walker<'_, S> {
     #[cycle(statements)]
     fn if_arms_made(&mut self, stand: &Stand, arms: &[IfArm]) -> Result<Ask<Vec<Arm>>, Memory>
         requires stand { IsStand (frame_of S.state self.old) stand.now }
-        requires sound { AreSound self.old.flows.now }
+        requires sound { AreSound (nodes_of self.old) }
         requires read { AreReadIfArms (names_of stand.now) (if_arms (map if_arm_view arms.now)) }
         ensures keeps { Keeps self.old self.new }
         ensures walks { Walks S.state self.old self.new stand.now result AreArms arms_in
             (λ s. arms_flow s (if_arms (map if_arm_view arms.now))) }
     {
-        let mut made = Vec::new(*self.flows.nodes.allocator());
+        let mut made = Vec::new(*self.fragments.nodes.allocator());
         for arm in arms.iter() {
             let one = analysed!(self.if_arm(stand, arm));
             made.push(one)?;
@@ -195,7 +200,7 @@ impl<S: Scopes> Walker<'_, S> {
         other: &[Statement],
     ) -> Result<Ask<Flow>, Memory>
         requires stand { IsStand (frame_of S.state self.old) stand.now }
-        requires sound { AreSound self.old.flows.now }
+        requires sound { AreSound (nodes_of self.old) }
         requires arms { AreReadIfArms (names_of stand.now) (if_arms (map if_arm_view arms.now)) }
         requires other { AreReadStatements (names_of stand.now) (spec_list (map statement_view other.now)) }
         ensures keeps { Keeps self.old self.new }
@@ -204,14 +209,14 @@ impl<S: Scopes> Walker<'_, S> {
     {
         let made = analysed!(self.if_arms_made(stand, arms));
         let rest = analysed!(self.otherwise(stand, other));
-        answered(self.flows.choice(made, rest))
+        answered(Flow::choice(made, rest, self.fragments))
     }
 
     /// LOOP.
     #[cycle(statements)]
     fn loop_statement(&mut self, stand: &Stand, body: &[Statement]) -> Result<Ask<Flow>, Memory>
         requires stand { IsStand (frame_of S.state self.old) stand.now }
-        requires sound { AreSound self.old.flows.now }
+        requires sound { AreSound (nodes_of self.old) }
         requires read { AreReadStatements (names_of stand.now) (spec_list (map statement_view body.now)) }
         ensures keeps { Keeps self.old self.new }
         ensures walks { Walks S.state self.old self.new stand.now result IsFlow flow_in
@@ -222,7 +227,7 @@ impl<S: Scopes> Walker<'_, S> {
             ..*stand
         };
         let inner = analysed!(self.statements(&within, body));
-        answered(self.flows.for_ever(inner))
+        answered(Flow::for_ever(inner, *self.fragments.nodes.allocator()))
     }
 
     /// One arm of a CASE whose selector has this type, where the arms before cover these values.
@@ -235,7 +240,7 @@ impl<S: Scopes> Walker<'_, S> {
         arm: &CaseArm,
     ) -> Result<Ask<OneCase>, Memory>
         requires stand { IsStand (frame_of S.state self.old) stand.now }
-        requires sound { AreSound self.old.flows.now }
+        requires sound { AreSound (nodes_of self.old) }
         requires of { IsThere (frame_of S.state self.old) of }
         requires read { IsReadCaseArm (names_of stand.now) (case_arm_view arm.now) }
         ensures keeps { Keeps self.old self.new }
@@ -269,14 +274,14 @@ impl<S: Scopes> Walker<'_, S> {
         arms: &[CaseArm],
     ) -> Result<Ask<Vec<Arm>>, Memory>
         requires stand { IsStand (frame_of S.state self.old) stand.now }
-        requires sound { AreSound self.old.flows.now }
+        requires sound { AreSound (nodes_of self.old) }
         requires of { IsThere (frame_of S.state self.old) of }
         requires arms { AreReadCaseArms (names_of stand.now) (case_arms (map case_arm_view arms.now)) }
         ensures keeps { Keeps self.old self.new }
         ensures walks { Walks S.state self.old self.new stand.now result AreArms cases_in
             (λ s. cases_flow s of [] (case_arms (map case_arm_view arms.now))) }
     {
-        let alloc = *self.flows.nodes.allocator();
+        let alloc = *self.fragments.nodes.allocator();
         let mut made = Vec::new(alloc);
         let mut covered = Covered::new(alloc);
         for arm in arms.iter() {
@@ -295,14 +300,14 @@ impl<S: Scopes> Walker<'_, S> {
         other: &Option<Vec<Statement>>,
     ) -> Result<Ask<Flow>, Memory>
         requires stand { IsStand (frame_of S.state self.old) stand.now }
-        requires sound { AreSound self.old.flows.now }
+        requires sound { AreSound (nodes_of self.old) }
         requires other { IsReadCaseElse (names_of stand.now) (case_else_seen other.now) }
         ensures keeps { Keeps self.old self.new }
         ensures walks { Walks S.state self.old self.new stand.now result IsFlow flow_in
             (λ s. else_flow s (case_else_seen other.now)) }
     {
         match other {
-            None => no_case_else(self.flows),
+            None => no_case_else(self.fragments),
             Some(body) => self.statements(stand, body),
         }
     }
@@ -317,7 +322,7 @@ impl<S: Scopes> Walker<'_, S> {
         other: &Option<Vec<Statement>>,
     ) -> Result<Ask<Flow>, Memory>
         requires stand { IsStand (frame_of S.state self.old) stand.now }
-        requires sound { AreSound self.old.flows.now }
+        requires sound { AreSound (nodes_of self.old) }
         requires x { IsSelector (frame_of S.state self.old) (nodes_of self.old) x }
         requires arms { AreReadCaseArms (names_of stand.now) (case_arms (map case_arm_view arms.now)) }
         requires other { IsReadCaseElse (names_of stand.now) (case_else_seen other.now) }
@@ -328,7 +333,7 @@ impl<S: Scopes> Walker<'_, S> {
     {
         let made = analysed!(self.case_arms_made(stand, x.of, arms));
         let rest = analysed!(self.case_else(stand, other));
-        answered(case_made(x.value, made, rest, self.flows))
+        answered(case_made(x.value, made, rest, self.fragments))
     }
 
     /// CASE.
@@ -341,7 +346,7 @@ impl<S: Scopes> Walker<'_, S> {
         other: &Option<Vec<Statement>>,
     ) -> Result<Ask<Flow>, Memory>
         requires stand { IsStand (frame_of S.state self.old) stand.now }
-        requires sound { AreSound self.old.flows.now }
+        requires sound { AreSound (nodes_of self.old) }
         requires value { IsReadExpr (names_of stand.now) (expr_view value.now) }
         requires arms { AreReadCaseArms (names_of stand.now) (case_arms (map case_arm_view arms.now)) }
         requires other { IsReadCaseElse (names_of stand.now) (case_else_seen other.now) }
@@ -362,7 +367,7 @@ impl<S: Scopes> Walker<'_, S> {
         body: &[Statement],
     ) -> Result<Ask<Flow>, Memory>
         requires stand { IsStand (frame_of S.state self.old) stand.now }
-        requires sound { AreSound self.old.flows.now }
+        requires sound { AreSound (nodes_of self.old) }
         requires holds { IsReadExpr (names_of stand.now) (expr_view holds.now) }
         requires read { AreReadStatements (names_of stand.now) (spec_list (map statement_view body.now)) }
         ensures keeps { Keeps self.old self.new }
@@ -371,7 +376,7 @@ impl<S: Scopes> Walker<'_, S> {
     {
         let code = analysed!(self.test(stand, holds));
         let inner = analysed!(self.statements(stand, body));
-        answered(self.flows.while_true(code, inner))
+        answered(Flow::while_true(code, inner, self.fragments))
     }
 
     /// REPEAT.
@@ -383,7 +388,7 @@ impl<S: Scopes> Walker<'_, S> {
         holds: &Expr,
     ) -> Result<Ask<Flow>, Memory>
         requires stand { IsStand (frame_of S.state self.old) stand.now }
-        requires sound { AreSound self.old.flows.now }
+        requires sound { AreSound (nodes_of self.old) }
         requires read { AreReadStatements (names_of stand.now) (spec_list (map statement_view body.now)) }
         requires holds { IsReadExpr (names_of stand.now) (expr_view holds.now) }
         ensures keeps { Keeps self.old self.new }
@@ -392,7 +397,7 @@ impl<S: Scopes> Walker<'_, S> {
     {
         let inner = analysed!(self.statements(stand, body));
         let code = analysed!(self.test(stand, holds));
-        answered(self.flows.until_true(inner, code))
+        answered(Flow::until_true(inner, code, self.fragments))
     }
 
     /// FOR.
@@ -405,7 +410,7 @@ impl<S: Scopes> Walker<'_, S> {
         body: &[Statement],
     ) -> Result<Ask<Flow>, Memory>
         requires stand { IsStand (frame_of S.state self.old) stand.now }
-        requires sound { AreSound self.old.flows.now }
+        requires sound { AreSound (nodes_of self.old) }
         requires name { name.name ≢ 0 }
         requires first { IsReadExpr (names_of stand.now) (expr_view limits.now.first.now) }
         requires last { IsReadExpr (names_of stand.now) (expr_view limits.now.last.now) }
@@ -427,7 +432,7 @@ impl<S: Scopes> Walker<'_, S> {
             last,
             by,
         };
-        emit_for(self.scopes, stand.site, &count, inner, self.flows)
+        emit_for(self.scopes, stand.site, &count, inner, self.fragments)
     }
 
     /// The statements in a WITH of this record.
@@ -439,7 +444,7 @@ impl<S: Scopes> Walker<'_, S> {
         body: &[Statement],
     ) -> Result<Ask<Flow>, Memory>
         requires stand { IsStand (frame_of S.state self.old) stand.now }
-        requires sound { AreSound self.old.flows.now }
+        requires sound { AreSound (nodes_of self.old) }
         requires x { IsCoded (frame_of S.state self.old) (nodes_of self.old) x }
         requires good { spec_bad x.operand ≡ false }
         requires read { AreReadStatements (names_of stand.now) (spec_list (map statement_view body.now)) }
@@ -447,13 +452,14 @@ impl<S: Scopes> Walker<'_, S> {
         ensures walks { Walks S.state self.old self.new stand.now result IsFlow flow_in
             (λ s. spec_with s (coded_in (nodes_of self.old) x) (spec_list (map statement_view body.now))) }
     {
-        let withs = opened(stand.withs, operand_type(&x.operand), self.flows)?;
+        let alloc = *self.fragments.nodes.allocator();
+        let withs = opened(stand.withs, operand_type(&x.operand), alloc)?;
         let within = Stand {
             withs: &withs,
             ..*stand
         };
         let inner = analysed!(self.statements(&within, body));
-        answered(with_made(x.code, inner, self.flows))
+        answered(with_made(x.code, inner, self.fragments))
     }
 
     /// The statements in a WITH of this variable.
@@ -465,7 +471,7 @@ impl<S: Scopes> Walker<'_, S> {
         body: &[Statement],
     ) -> Result<Ask<Flow>, Memory>
         requires stand { IsStand (frame_of S.state self.old) stand.now }
-        requires sound { AreSound self.old.flows.now }
+        requires sound { AreSound (nodes_of self.old) }
         requires x { IsCoded (frame_of S.state self.old) (nodes_of self.old) x }
         requires read { AreReadStatements (names_of stand.now) (spec_list (map statement_view body.now)) }
         ensures keeps { Keeps self.old self.new }
@@ -474,7 +480,7 @@ impl<S: Scopes> Walker<'_, S> {
     {
         if is_bad(x.operand) {
             let inner = analysed!(self.statements(stand, body));
-            return answered(self.flows.with_cell(inner));
+            return answered(Flow::with_cell(inner, *self.fragments.nodes.allocator()));
         }
         self.in_record(stand, x, body)
     }
@@ -488,7 +494,7 @@ impl<S: Scopes> Walker<'_, S> {
         body: &[Statement],
     ) -> Result<Ask<Flow>, Memory>
         requires stand { IsStand (frame_of S.state self.old) stand.now }
-        requires sound { AreSound self.old.flows.now }
+        requires sound { AreSound (nodes_of self.old) }
         requires of { IsReadDesignator (names_of stand.now) (designator_view of.now) }
         requires read { AreReadStatements (names_of stand.now) (spec_list (map statement_view body.now)) }
         ensures keeps { Keeps self.old self.new }
@@ -500,24 +506,25 @@ impl<S: Scopes> Walker<'_, S> {
     }
 }
 
-/// A statement where it stands: its code as a flow, for which further fragments and flows are added to `flows`. What
-/// is wrong is noted in text order, and what is in error has no code. It waits where the first of its parts does.
+/// A statement where it stands: its code as a flow, for which further fragments are added. What is wrong is noted in
+/// text order, and what is in error has no code. It waits where the first of its parts does.
 pub fn statement<S: Scopes>(
     scopes: &mut S,
     stand: &Stand,
     of: &Statement,
-    flows: &mut Flows,
+    fragments: &mut Fragments,
     notes: &mut Notes,
 ) -> Result<Ask<Flow>, Memory>
     requires stand { IsStand (S.state scopes.old).frame stand.now }
-    requires sound { AreSound flows.old }
+    requires sound { AreSound fragments.old.nodes.items }
     requires read { IsReadStatement (names_of stand.now) (statement_view of.now) }
-    ensures { Flowing (S.state scopes.old) (S.state scopes.new) notes.old notes.new flows.old flows.new
-        stand.now.site.now result IsFlow flow_in (λ c. statement_flow (stand_in c stand.now) (statement_view of.now)) }
+    ensures { Flowing (S.state scopes.old) (S.state scopes.new) notes.old notes.new
+        fragments.old.nodes.items fragments.new.nodes.items stand.now.site.now result IsFlow flow_in
+        (λ c. statement_flow (stand_in c stand.now) (statement_view of.now)) }
 {
     let mut walker = Walker {
         scopes,
-        flows,
+        fragments,
         notes,
     };
     walker.statement(stand, of)

@@ -14,7 +14,7 @@ ghost use Rattle.type_rules.specs.Scenes.{WhereTold};
 ghost use Rattle.type_rules.specs.Sites.{SuitsSite, context_of};
 ghost use Rattle.stmt_sem.specs.Stands.{IsStand};
 ghost use Rattle.stmt_sem.specs.Tests.{false_code as spec_false, test_code as spec_test};
-ghost use Rattle.stmt_sem.specs.Walkers.{Codes, Keeps, KeepsNodes, frame_of, nodes_of};
+ghost use Rattle.stmt_sem.specs.Walkers.{Codes, Keeps, frame_of, nodes_of};
 
 use crate::refusals::refused_code;
 use crate::stands::Stand;
@@ -67,16 +67,15 @@ impl<S: Scopes> Walker<'_, S> {
         requires stand { IsStand (frame_of S.state self.old) stand.now }
         requires x { IsCoded (frame_of S.state self.old) (nodes_of self.old) x.coded }
         ensures keeps { Keeps self.old self.new }
-        ensures nodes { KeepsNodes self.old self.new }
         ensures codes { Codes S.state self.old self.new stand.now result IsFragment part
             (λ s. if spec_boolean s.context x.coded.operand then gives (spec_value_code s.context
             (coded_in (nodes_of self.old) x.coded)) else refuse s.context x.at not_boolean spec_false) }
     {
         let boolean = asked!(is_boolean(self.scopes, stand.site, x.coded.operand));
         if boolean {
-            return value_code(self.scopes, stand.site, x.coded, &mut self.flows.fragments);
+            return value_code(self.scopes, stand.site, x.coded, self.fragments);
         }
-        refused_test(stand.site, x.at, &mut self.flows.fragments, self.notes)
+        refused_test(stand.site, x.at, self.fragments, self.notes)
     }
 
     /// The code of a test.
@@ -84,12 +83,11 @@ impl<S: Scopes> Walker<'_, S> {
         requires stand { IsStand (frame_of S.state self.old) stand.now }
         requires x { IsCoded (frame_of S.state self.old) (nodes_of self.old) x.coded }
         ensures keeps { Keeps self.old self.new }
-        ensures nodes { KeepsNodes self.old self.new }
         ensures codes { Codes S.state self.old self.new stand.now result IsFragment part
             (λ s. spec_test s.context x.at (coded_in (nodes_of self.old) x.coded)) }
     {
         if is_bad(x.coded.operand) {
-            return answered(false_code(&mut self.flows.fragments));
+            return answered(false_code(self.fragments));
         }
         self.test_wanted(stand, x)
     }

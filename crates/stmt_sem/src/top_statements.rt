@@ -5,7 +5,8 @@ ghost use Rattle.m2_base.specs.Views.{stream_view};
 ghost use Rattle.m2_base.specs.Views.{statement_view};
 ghost use Rattle.stmt_sem.specs.BlockCode.{in_statements};
 ghost use Rattle.stmt_sem.specs.Flowings.{Flowing, IsFlow};
-ghost use Rattle.stmt_sem.specs.FlowNodes.{AreSound, IsAmong, flow_in};
+ghost use Rattle.expr_sem.specs.Fragments.{AreSound};
+ghost use Rattle.stmt_sem.specs.FlowTrees.{IsOver, flow_in};
 ghost use Rattle.stmt_sem.specs.Flows.{part_at};
 ghost use Rattle.m2_base.specs.Statics.ReadStatements.{AreReadStatements, IsReadStatement};
 ghost use Rattle.stmt_sem.specs.Stands.{at_first};
@@ -16,10 +17,10 @@ ghost use Rattle.type_rules.specs.Sites.{SuitsSite};
 
 use crate::block_pieces::empty_piece;
 use crate::flow_appending::append_flow;
-use crate::flows::{Flow, Flows};
+use crate::flows::Flow;
 use crate::stands::Stand;
 use crate::statements::statement;
-use expr_sem::Piece;
+use expr_sem::{Fragments, Piece};
 use m2_base::{Ask, Layout, Memory, Notes, Place, Scopes, Site, Statement, Stream};
 use std::alloc::Global;
 
@@ -38,13 +39,20 @@ pub struct Stated {
 }
 
 /// A piece with the code of a statement that is in no LOOP and no WITH, from this cell and this byte on.
-fn piece_of(alloc: Global, flows: &Flows, flow: Flow, cell: u32, byte: u32) -> Result<Piece, Memory>
-    requires sound { AreSound flows.now }
-    requires there { IsAmong flows.now flow }
-    ensures { IfOk result (λ piece. made_in piece ≡ part_at 0 (flow_in flows.now flow 0) (spot_at cell byte)) }
+fn piece_of(
+    flow: &Flow,
+    fragments: &Fragments,
+    alloc: Global,
+    cell: u32,
+    byte: u32,
+) -> Result<Piece, Memory>
+    requires sound { AreSound fragments.now.nodes.items }
+    requires there { IsOver fragments.now.nodes.items flow.now }
+    ensures { IfOk result (λ piece.
+        made_in piece ≡ part_at 0 (flow_in fragments.now.nodes.items flow.now 0) (spot_at cell byte)) }
 {
     let mut piece = empty_piece(alloc, cell, byte);
-    append_flow(flows, flow, &mut piece)?;
+    append_flow(flow, fragments, &mut piece)?;
     Ok(piece)
 }
 
@@ -53,16 +61,16 @@ pub fn top_statement<S: Scopes>(
     scopes: &mut S,
     site: &Site,
     top: &TopStatement,
-    flows: &mut Flows,
+    fragments: &mut Fragments,
     notes: &mut Notes,
 ) -> Result<Ask<Flow>, Memory>
     requires suits { SuitsSite (S.state scopes.old).frame site.now }
     requires item { site.now.item ≡ None }
-    requires sound { AreSound flows.old }
+    requires sound { AreSound fragments.old.nodes.items }
     requires read { IsReadStatement site.now.texts.now.names (statement_view top.now.of.now) }
     requires there { IfSome top.now.result (λ t. IsThere (S.state scopes.old).frame t) }
-    ensures { Flowing (S.state scopes.old)
-        (S.state scopes.new) notes.old notes.new flows.old flows.new site.now result IsFlow flow_in
+    ensures { Flowing (S.state scopes.old) (S.state scopes.new) notes.old notes.new
+        fragments.old.nodes.items fragments.new.nodes.items site.now result IsFlow flow_in
         (λ c. statement_flow (at_first (in_statements c) top.now.result) (statement_view top.now.of.now)) }
 {
     let texts = site.texts;
@@ -80,7 +88,7 @@ pub fn top_statement<S: Scopes>(
         withs: &[],
         looped: false,
     };
-    statement(scopes, &stand, top.of, flows, notes)
+    statement(scopes, &stand, top.of, fragments, notes)
 }
 
 /// Where a statement of a body begins, by its first temporary cell and the first byte of its data, and the result of
@@ -111,14 +119,14 @@ pub fn state<S: Scopes>(
 {
     let texts = site.texts;
     let alloc = *texts.order.allocator();
-    let mut flows = Flows::new(alloc);
+    let mut fragments = Fragments::new(alloc);
     let mut notes = Notes::new(alloc);
     let of = &stream.body[index];
     let top = TopStatement {
         of,
         result: from.result,
     };
-    let flow = analysed!(top_statement(scopes, site, &top, &mut flows, &mut notes));
-    let piece = piece_of(alloc, &flows, flow, from.cell, from.byte)?;
+    let flow = analysed!(top_statement(scopes, site, &top, &mut fragments, &mut notes));
+    let piece = piece_of(&flow, &fragments, alloc, from.cell, from.byte)?;
     Ok(Ask::Known(Stated { piece, notes }))
 }

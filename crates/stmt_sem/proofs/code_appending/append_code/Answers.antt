@@ -5,7 +5,7 @@ use Rattle.expr_sem.specs.Fragments.{part}
 use Rattle.expr_sem.specs.Parts.{plain, ◌⨟◌}
 use Rattle.expr_sem.specs.Pieces.{Appended}
 use Rattle.expr_sem.proofs.PieceParts.{then_on}
-use Rattle.stmt_sem.specs.FlowNodes.{code_by}
+use Rattle.stmt_sem.specs.FlowTrees.{code_by}
 use Rattle.stmt_sem.specs.declared.flows.Code.{Code}
 use Rattle.stmt_sem.proofs.code_appending.append_code.Goals as goal
 

@@ -15,7 +15,7 @@ use Rattle.expr_sem.specs.declared.fragments.Fragment.TheVariants.{Nothing}
 use Rattle.expr_sem.proofs.Onwards.{with_grown}
 use Rattle.expr_sem.proofs.Operating.{described, unknown, unmade, value_alone}
 use Rattle.expr_sem.proofs.Sequencing.{Grows-refl}
-use Rattle.stmt_sem.specs.FlowNodes.{code_by}
+use Rattle.stmt_sem.specs.FlowTrees.{code_by}
 use Rattle.stmt_sem.specs.Taken.{IsCellCode}
 use Rattle.stmt_sem.specs.declared.flows.Code.TheVariants.{Fixed, Stored}
 use Rattle.stmt_sem.proofs.LoopCases.{first_bad, none_bad, second_bad}

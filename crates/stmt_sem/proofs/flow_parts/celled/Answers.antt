@@ -1,15 +1,14 @@
 use Rattle.std.proofs.Common.{◌∙◌, ap}
 use Rattle.std.proofs.Math.Path.{fun_ext}
-use Rattle.stmt_sem.specs.FlowNodes.{CellFlow}
-use Rattle.stmt_sem.specs.Flows.{with_cell}
-use Rattle.stmt_sem.proofs.FlowsKept.{Grows-trans, flow_later}
-use Rattle.stmt_sem.proofs.FlowsMade.{made_after, then_both}
+use Rattle.stmt_sem.specs.FlowTrees.{CellFlow, flow_in}
+use Rattle.stmt_sem.specs.Flows.{Flow, with_cell, ◌⨾◌}
+use Rattle.stmt_sem.proofs.FlowsMade.{made_as}
 use Rattle.stmt_sem.proofs.flow_parts.celled.Goals as goal
 
 pub returns : goal.returns
 returns c =
-    let first = c.in_ok-first.ensures.made in
-    let both = c.in_ok-both.ensures in
-    made_after c.with_cell.result (Grows-trans first.grows both.grows) c.with_cell.ensures.made
-    (λ u. ap (λ (f : CellFlow). with_cell f)
-    (fun_ext (λ t. both.made.flow_is t ∙ then_both (first.made.flow_is t) (flow_later c.requires.sound first.grows c.args.rest c.requires.rest t))))
+    let ns = c.args.fragments.now.nodes.items in
+    let first = c.in_ok-first.ensures in
+    let both = c.in_ok-both.ensures ns first.there c.requires.rest in
+    made_as ns c.with_cell.result (c.with_cell.ensures ns both.there)
+    (λ u. ap (λ (f : CellFlow). with_cell f) (fun_ext (λ t. both.flow_is t ∙ ap (λ (f : Flow). f ⨾ flow_in ns c.args.rest t) (first.flow_is t))))

@@ -1,16 +1,16 @@
 use Rattle.std.proofs.Common.{[], ◌∷◌, ap}
 use Rattle.std.proofs.Math.Path.{fun_ext}
 use Rattle.code_form.specs.declared.instr.Instr.TheVariants.{Local, Store}
-use Rattle.expr_sem.specs.Parts.{Part, plain, ◌⨟◌}
-use Rattle.stmt_sem.specs.FlowNodes.{CellFlow}
-use Rattle.stmt_sem.specs.Flows.{straight, with_cell}
-use Rattle.stmt_sem.proofs.FlowLists.{part_later}
-use Rattle.stmt_sem.proofs.FlowsMade.{made_after, then_both}
+use Rattle.expr_sem.specs.Fragments.{part}
+use Rattle.expr_sem.specs.Parts.{plain, ◌⨟◌}
+use Rattle.stmt_sem.specs.FlowTrees.{CellFlow}
+use Rattle.stmt_sem.specs.Flows.{Flow, straight, with_cell, ◌⨾◌}
+use Rattle.stmt_sem.proofs.FlowsMade.{made_as}
 use Rattle.stmt_sem.proofs.flow_parts.with_made.Goals as goal
 
 pub returns : goal.returns
 returns c =
-    let inner = c.in_ok-inner.ensures.made in
-    made_after c.celled.result inner.grows c.celled.ensures
-    (λ u. ap (λ (f : CellFlow). with_cell f)
-    (fun_ext (λ t. then_both (ap (λ (p : Part). straight (plain (Local 0 t ∷ []) ⨟ p ⨟ plain (Store ∷ []))) (part_later inner.grows c.args.address c.requires.address)) (inner.made.flow_is t))))
+    let ns = c.args.fragments.now.nodes.items in
+    let inner = c.in_ok-inner.ensures ns c.requires.body in
+    made_as ns c.celled.result c.celled.ensures
+    (λ u. ap (λ (f : CellFlow). with_cell f) (fun_ext (λ t. ap (λ (f : Flow). straight (plain (Local 0 t ∷ []) ⨟ part ns c.args.address ⨟ plain (Store ∷ [])) ⨾ f) (inner.flow_is t))))

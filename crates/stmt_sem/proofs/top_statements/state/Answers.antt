@@ -11,6 +11,9 @@ top_statement-requires-clause-read g c =
     let x = c.index-of.result.now in
     statement_read c.args.site.now.texts.now.names (stream_view c.args.stream.now).body k (statement_view x) (statement_is xs k x c.requires.index c.index-of.ensures) c.requires.read
 
+pub piece_of-requires-clause-sound : goal.piece_of-requires-clause-sound
+piece_of-requires-clause-sound g c = c.top_statement.ensures.grows.sound c.new-fragments.ensures.sound
+
 pub returns-in-DontKnowYet : goal.returns-in-DontKnowYet
 returns-in-DontKnowYet g c = state_waits (stream_view c.args.stream.now) c.args.index (spot_at c.args.from.cell c.args.from.byte) (rw c.in-DontKnowYet.is at c.in-Ok.ensures)
 

@@ -18,7 +18,7 @@ statement-requires-clause-stand g c =
 
 pub returns-in_err-layout : goal.returns-in_err-layout
 returns-in_err-layout g c =
-    unbegun (g.S.Scopes.state c.args.scopes.now) c.args.notes.now c.args.flows.now c.args.site.now (λ k. statement_flow (at_first (in_statements k) c.args.top.now.result) (statement_view c.args.top.now.of.now))
+    unbegun (g.S.Scopes.state c.args.scopes.now) c.args.notes.now c.args.fragments.now.nodes.items c.args.site.now (λ k. statement_flow (at_first (in_statements k) c.args.top.now.result) (statement_view c.args.top.now.of.now))
     c.from_residual.result c.from_residual.ensures.0
 
 pub returns : goal.returns

@@ -2,22 +2,21 @@ use Rattle.std.proofs.Common.{◌≡◌, ◌∙◌, ◌+◌, ℕ, FitsSigned, ap
 use Rattle.std.proofs.lemmas.Int.{to_z-of_z}
 use Rattle.expr_sem.specs.Fragments.{part}
 use Rattle.expr_sem.proofs.PieceParts.{Begins-refl, Begins-trans}
-use Rattle.stmt_sem.specs.FlowNodes.{code_by}
+use Rattle.stmt_sem.specs.FlowTrees.{code_by}
 use Rattle.stmt_sem.specs.FlowSizes.{code_bytes, fragment_bytes, somewhere}
 use Rattle.stmt_sem.proofs.FlowsAppended.{again_on}
 use Rattle.stmt_sem.proofs.flow_appending.Appender.append_again.Goals as goal
 
 pub returns-clause-ok : goal.returns-clause-ok
 returns-clause-ok c =
-    let fs = c.args.self.now.flows.now in
-    let ns = fs.fragments.nodes.items in
+    let ns = c.args.self.now.fragments.now.nodes.items in
     let ws = c.args.self.now.withs.now in
     let sound = c.requires.sound in
     let n = c.args.size in
-    let k = code_bytes fs c.args.again.now in
-    let s = fragment_bytes fs c.args.step in
-    let again : k ≡ c.in_ok-code_size.field-0 = c.in_ok-code_size.ensures sound 0 somewhere in
-    let step : s ≡ c.size.result = c.size.ensures sound.fragments somewhere in
+    let k = code_bytes ns c.args.again.now in
+    let s = fragment_bytes ns c.args.step in
+    let again : k ≡ c.in_ok-size.field-0 = c.in_ok-size.ensures 0 somewhere in
+    let step : s ≡ c.size.result = c.size.ensures sound somewhere in
     let over : FitsSigned w32 c.in_ok-forward.field-0 = search rules in
     let back : FitsSigned w32 c.in_ok-backward.field-0 = search rules in
     let skip : c.in_ok-step_size.step_size ≡ s + 5 = c.in_ok-step_size.ensures ∙ ap (λ (i : ℕ). i + 5) (sym step) in
@@ -30,8 +29,8 @@ returns-clause-ok c =
 pub returns-in_err-step_size-clause-begins : goal.returns-in_err-step_size-clause-begins
 returns-in_err-step_size-clause-begins c = Begins-refl c.args.piece.now
 
-pub returns-in_err-code_size-clause-begins : goal.returns-in_err-code_size-clause-begins
-returns-in_err-code_size-clause-begins c = Begins-refl c.args.piece.now
+pub returns-in_err-size-clause-begins : goal.returns-in_err-size-clause-begins
+returns-in_err-size-clause-begins c = Begins-refl c.args.piece.now
 
 pub returns-in_err-sum-clause-begins : goal.returns-in_err-sum-clause-begins
 returns-in_err-sum-clause-begins c = Begins-refl c.args.piece.now

@@ -1,4 +1,4 @@
-use Rattle.std.proofs.Common.{◌∙◌, ◌≡◌, ◌++◌, ◌∷◌, [], ℕ, ℤ, List, None, Ok, Err, Option, Some, ap, arith, map, of_z, refl, rules, sym, to_z, w64}
+use Rattle.std.proofs.Common.{◌∙◌, ◌≡◌, ◌++◌, ◌∷◌, [], ℕ, ℤ, List, None, Ok, Err, Option, Some, ap, arith, map, of_z, refl, rules, subst, sym, to_z, w64}
 use Rattle.std.proofs.Math.Path.{fun_ext}
 use Rattle.std.specs.Prelude.{option_map}
 use Rattle.std.specs.declared.alloc.Global.{Global}
@@ -25,7 +25,8 @@ use Rattle.expr_sem.specs.Codings.{coded_in, with_types}
 use Rattle.expr_sem.specs.Expressions.{value}
 use Rattle.expr_sem.specs.Fragments.{part}
 use Rattle.stmt_sem.specs.Flowings.{IsFlow}
-use Rattle.stmt_sem.specs.FlowNodes.{flow_in}
+use Rattle.stmt_sem.specs.FlowTrees.{IsOver, flow_in}
+use Rattle.stmt_sem.specs.declared.flows.Flow.{Flow}
 use Rattle.stmt_sem.specs.Counting.{bound_value, control_variable, or_one}
 use Rattle.stmt_sem.specs.Flows as flow
 use Rattle.stmt_sem.specs.Flows.{for_ever, in_with, nothing, until_true, while_true, with_cell}
@@ -34,23 +35,24 @@ use Rattle.stmt_sem.specs.Stated.{AreArms, AreFlows, IsOther, arms_in, block_in,
 use Rattle.stmt_sem.specs.StatementParts.{case_of, otherwise, record_of, selector, statements_onto, stored_before, with_body}
 use Rattle.stmt_sem.specs.Statements.{Arm, arm_before, arm_flow, arm_of, arms_flow, by_of, case_flow, cases_flow, else_flow, else_of, flow_of, flow_or_nothing, for_flow, in_loop, statement_flow, test}
 use Rattle.stmt_sem.specs.declared.flows.Code.TheVariants.{Fixed, Labels}
-use Rattle.stmt_sem.specs.declared.flows.Flow.TheVariants.{Nothing}
 use Rattle.stmt_sem.proofs.CaseLists.{AreSoFar, arm_given, cases_more, none_so_far, of_labels, so_far_in}
-use Rattle.stmt_sem.proofs.FlowLists.{arms_kept, arms_more, arms_there, block_more, block_onto, block_there, coded_later as coded_kept, in_later, stays_coded}
-use Rattle.stmt_sem.proofs.Flowed.{by_answer, described, flowing_after, made_after, made_after_both, one_more, sound_after, stand_after, stands_after, step, suits_after, unknown, unknown_after, unmade, unmade_after, value_after, value_after_both, value_alone, whole}
+use Rattle.expr_sem.proofs.Operating.{coded_later as coded_kept, stays_coded}
+use Rattle.expr_sem.proofs.Sequencing.{Grows-refl, Grows-trans, in_later}
+use Rattle.stmt_sem.proofs.FlowLists.{arms_kept, arms_more, arms_there, block_more, block_onto, block_there}
+use Rattle.stmt_sem.proofs.Flowed.{by_answer, described, flowing_after, made_after, made_after_both, of_coding, one_more, sound_after, stand_after, stands_after, step, suits_after, unknown, unknown_after, unmade, unmade_after, value_after, value_after_both, value_alone, whole}
 use Rattle.stmt_sem.proofs.FlowsBehind.{stands_for, unknown_behind, unmade_behind}
-use Rattle.stmt_sem.proofs.FlowsKept.{Grows-refl, Grows-trans, among_later}
+use Rattle.stmt_sem.proofs.FlowsLater.{over_later}
 use Rattle.stmt_sem.proofs.StatementFolds.{arms_folded, behind_arm, behind_case, behind_flow, cases_folded, onto_folded, statements_given}
 use Rattle.stmt_sem.proofs.StatementGiven.{arm_same, bad_with, case_given, case_same, choice_same, for_given, good_with, if_given, no_else, some_else, statement_given, until_same, while_same, with_given, with_same}
 use Rattle.stmt_sem.proofs.StatementReads.{case_arm_read, case_arm_smaller, case_smaller, else_smaller, for_smaller, form_read, if_arm_read, if_arm_smaller, if_smaller, loop_smaller, read_case_arm, read_if_arm, read_statement, repeat_smaller, rest_size, rest_smaller, while_smaller, with_smaller}
-use Rattle.stmt_sem.proofs.Walked.{full_by_both, more_open, no_arms_in, no_arms_there, none_in, none_there, of_part, there_after, wanted_first}
+use Rattle.stmt_sem.proofs.Walked.{full_by, full_by_both, more_open, no_arms_in, no_arms_there, none_in, none_there, there_after, wanted_first}
 use Rattle.stmt_sem.proofs.Walkers.{Keeps-refl, Keeps-trans}
 use Rattle.stmt_sem.proofs.walker.Walker.+statements.Goals as goal
 
 pub statements_made-loop-of-init : goal.statements_made-loop-of-init
 statements_made-loop-of-init g t c = (
   Keeps-refl c.args.self.now,
-  (value_alone (g.S.Scopes.state c.args.self.now.scopes.now) c.args.self.now.notes.now c.args.self.now.flows.now c.args.stand.now.site.now c.new-made.result AreFlows block_in (λ k. λ rest. rest) (none_there c.args.self.now.flows.now c.new-made.result c.new-made.ensures.items) (λ k cell. none_in c.args.self.now.flows.now c.new-made.result c.new-made.ensures.items cell)),
+  (value_alone (g.S.Scopes.state c.args.self.now.scopes.now) c.args.self.now.notes.now c.args.self.now.fragments.now.nodes.items c.args.stand.now.site.now c.new-made.result AreFlows block_in (λ k. λ rest. rest) (none_there c.args.self.now.fragments.now.nodes.items c.new-made.result c.new-made.ensures.items) (λ k cell. none_in c.args.self.now.fragments.now.nodes.items c.new-made.result c.new-made.ensures.items cell)),
 )
 
 pub statements_made-statement-requires : goal.statements_made-statement-requires
@@ -61,10 +63,9 @@ pub statements_made-loop-of-preserved : goal.statements_made-loop-of-preserved
 statements_made-loop-of-preserved g t c = (
   Keeps-trans c.loop-of.invariant.0 c.statement.ensures.keeps,
   (let one = (rw c.in-Known.is at c.in-Ok.ensures.walks) in
-      let sound = sound_after c.loop-of.invariant.1 c.requires.sound in
       let pushed : c.push.new.self.items ≡ c.loop-of.made.items ++ c.in-Known.value ∷ [] = c.in_ok-push.ensures.items in
       one_more (λ k o i. statement_flow (stand_in k c.args.stand.now) (statement_view i)) behind_flow (λ rest. rest) c.args.body.now c.loop-of.of-index c.push.new.self c.of-item.result c.loop-of-test.true c.of-item.is c.loop-of.invariant.1 one
-      (block_there sound one.grows c.loop-of.made c.push.new.self c.in-Known.value pushed c.loop-of.invariant.1.there one.there) (block_more sound one.grows c.loop-of.made c.push.new.self c.in-Known.value pushed c.loop-of.invariant.1.there)),
+      (block_there one.grows c.loop-of.made c.push.new.self c.in-Known.value pushed c.loop-of.invariant.1.there one.there) (block_more one.grows c.loop-of.made c.push.new.self c.in-Known.value pushed c.loop-of.invariant.1.there)),
 )
 
 pub statements_made-returns-in-DontKnowYet-clause-walks : goal.statements_made-returns-in-DontKnowYet-clause-walks
@@ -89,13 +90,10 @@ statements-returns-in-DontKnowYet-clause-walks g t c = unknown (rw c.in-DontKnow
 pub statements-returns-in-Err-clause-walks : goal.statements-returns-in-Err-clause-walks
 statements-returns-in-Err-clause-walks g t c = unmade c.in-Err.ensures.walks _
 
-pub statements-block-requires : goal.statements-block-requires
-statements-block-requires g t c = record { there = (rw c.in-Known.is at c.in-Ok.ensures.walks).there }
-
 pub statements-returns-clause-walks : goal.statements-returns-clause-walks
 statements-returns-clause-walks g t c =
     by_answer c.block.result c.answered.result c.answered.ensures
-    (described _ (made_after (λ k. statements_onto (stand_in k c.args.stand.now) (λ rest. rest) (statements (map statement_view c.args.body.now))) (λ b. b nothing) c.block.result (rw c.in-Known.is at c.in-Ok.ensures.walks) c.block.ensures.made (λ u same cell. block_onto _ c.in-Known.value.items cell ∙ ap (λ (b : flow.Flow → flow.Flow). b nothing) (same cell)))
+    (described _ (made_after (λ k. statements_onto (stand_in k c.args.stand.now) (λ rest. rest) (statements (map statement_view c.args.body.now))) (λ b. b nothing) c.block.result (rw c.in-Known.is at c.in-Ok.ensures.walks) (c.block.ensures c.statements_made.new.self.fragments.now.nodes.items (rw c.in-Known.is at c.in-Ok.ensures.walks).there) (λ u same cell. block_onto _ c.in-Known.value.items cell ∙ ap (λ (b : flow.Flow → flow.Flow). b nothing) (same cell)))
     (λ k. statements_given (stand_in k c.args.stand.now) (statements (map statement_view c.args.body.now))))
 
 pub otherwise-statements-requires : goal.otherwise-statements-requires
@@ -103,7 +101,7 @@ otherwise-statements-requires g t c κs within = (omega (arith, c.decreases), (w
 
 pub otherwise-returns-then-is_empty-clause-walks : goal.otherwise-returns-then-is_empty-clause-walks
 otherwise-returns-then-is_empty-clause-walks g t c =
-    described _ (value_alone (g.S.Scopes.state c.args.self.now.scopes.now) c.args.self.now.notes.now c.args.self.now.flows.now c.args.stand.now.site.now None IsOther other_in (λ k. None) tt (λ k cell. refl)) (λ k. no_else (stand_in k c.args.stand.now) statement_view c.args.body.now (sym c.is_empty.ensures ∙ c.if-is_empty.true))
+    described _ (value_alone (g.S.Scopes.state c.args.self.now.scopes.now) c.args.self.now.notes.now c.args.self.now.fragments.now.nodes.items c.args.stand.now.site.now None IsOther other_in (λ k. None) tt (λ k cell. refl)) (λ k. no_else (stand_in k c.args.stand.now) statement_view c.args.body.now (sym c.is_empty.ensures ∙ c.if-is_empty.true))
 
 pub otherwise-returns-in-DontKnowYet-clause-walks : goal.otherwise-returns-in-DontKnowYet-clause-walks
 otherwise-returns-in-DontKnowYet-clause-walks g t c = unknown (rw c.in-DontKnowYet.is at c.in-Ok.ensures.walks)
@@ -111,42 +109,50 @@ otherwise-returns-in-DontKnowYet-clause-walks g t c = unknown (rw c.in-DontKnowY
 pub otherwise-returns-in-Err-clause-walks : goal.otherwise-returns-in-Err-clause-walks
 otherwise-returns-in-Err-clause-walks g t c = unmade c.in-Err.ensures.walks _
 
+pub otherwise-returns-in_err-held-clause-walks : goal.otherwise-returns-in_err-held-clause-walks
+otherwise-returns-in_err-held-clause-walks g t c = full_by c.from_residual.result c.from_residual.ensures.0 (rw c.in-Known.is at c.in-Ok.ensures.walks)
+
 pub otherwise-returns-clause-walks : goal.otherwise-returns-clause-walks
 otherwise-returns-clause-walks g t c =
-    value_after (λ k. flow_of (stand_in k c.args.stand.now) (statements (map statement_view c.args.body.now))) (λ f. else_of (statements (map statement_view c.args.body.now)) f) (Some c.in-Known.value) (rw c.in-Known.is at c.in-Ok.ensures.walks) (Grows-refl c.statements.new.self.flows.now) (rw c.in-Known.is at c.in-Ok.ensures.walks).there (λ u same cell. ap (λ (f : flow.Flow). Some f) (same cell) ∙ some_else statement_view c.args.body.now u (sym c.is_empty.ensures ∙ c.if-is_empty.false))
+    let ns = c.statements.new.self.fragments.now.nodes.items in
+    let one = rw c.in-Known.is at c.in-Ok.ensures.walks in
+    let held = c.in_ok-held.ensures.ok in
+    value_after (λ k. flow_of (stand_in k c.args.stand.now) (statements (map statement_view c.args.body.now))) (λ f. else_of (statements (map statement_view c.args.body.now)) f) (Some c.in_ok-held.held) one (Grows-refl ns)
+    (subst (λ (x : Flow). IsOver ns x) (sym held) one.there)
+    (λ u same cell. ap (λ (x : Flow). Some (flow_in ns x cell)) held ∙ ap (λ (f : flow.Flow). Some f) (same cell) ∙ some_else statement_view c.args.body.now u (sym c.is_empty.ensures ∙ c.if-is_empty.false))
 
 pub if_arm-test-requires-clause-e : goal.if_arm-test-requires-clause-e
 if_arm-test-requires-clause-e g t c = (if_arm_read c.args.stand.now.site.now.texts.now.names c.args.arm.now c.requires.read).0
 
 pub if_arm-returns-in-DontKnowYet-clause-walks : goal.if_arm-returns-in-DontKnowYet-clause-walks
-if_arm-returns-in-DontKnowYet-clause-walks g t c = unknown (of_part c.args.self.now.flows.now c.test.new.self.flows.now _ (rw c.in-DontKnowYet.is at c.in-Ok.ensures.codes) c.test.ensures.nodes)
+if_arm-returns-in-DontKnowYet-clause-walks g t c = unknown (of_coding _ (rw c.in-DontKnowYet.is at c.in-Ok.ensures.codes))
 
 pub if_arm-returns-in-Err-clause-walks : goal.if_arm-returns-in-Err-clause-walks
-if_arm-returns-in-Err-clause-walks g t c = unmade (of_part c.args.self.now.flows.now c.test.new.self.flows.now _ c.in-Err.ensures.codes c.test.ensures.nodes) _
+if_arm-returns-in-Err-clause-walks g t c = unmade (of_coding _ c.in-Err.ensures.codes) _
 
 pub if_arm-statements-requires : goal.if_arm-statements-requires
 if_arm-statements-requires g t c κs within =
-    ((let small = if_arm_smaller c.args.arm.now in let same0 = ap (most size-Statement) c.deref.ensures.value in omega (arith, small, same0, c.decreases)), (within, (stand_after (of_part c.args.self.now.flows.now c.test.new.self.flows.now _ (rw c.in-Known.is at c.in-Ok.ensures.codes) c.test.ensures.nodes) c.args.stand.now c.requires.stand, (sound_after (of_part c.args.self.now.flows.now c.test.new.self.flows.now _ (rw c.in-Known.is at c.in-Ok.ensures.codes) c.test.ensures.nodes) c.requires.sound, (rw c.deref.ensures.value (if_arm_read c.args.stand.now.site.now.texts.now.names c.args.arm.now c.requires.read).1)))))
+    ((let small = if_arm_smaller c.args.arm.now in let same0 = ap (most size-Statement) c.deref.ensures.value in omega (arith, small, same0, c.decreases)), (within, (stand_after (of_coding _ (rw c.in-Known.is at c.in-Ok.ensures.codes)) c.args.stand.now c.requires.stand, (sound_after (of_coding _ (rw c.in-Known.is at c.in-Ok.ensures.codes)) c.requires.sound, (rw c.deref.ensures.value (if_arm_read c.args.stand.now.site.now.texts.now.names c.args.arm.now c.requires.read).1)))))
 
 pub if_arm-returns-in-DontKnowYet-asked-clause-walks : goal.if_arm-returns-in-DontKnowYet-asked-clause-walks
 if_arm-returns-in-DontKnowYet-asked-clause-walks g t c =
-    unknown_after (of_part c.args.self.now.flows.now c.test.new.self.flows.now _ (rw c.in-Known.is at c.in-Ok.ensures.codes) c.test.ensures.nodes) (rw c.in-DontKnowYet-asked.is at c.in-Ok-statements.ensures.walks)
+    unknown_after (of_coding _ (rw c.in-Known.is at c.in-Ok.ensures.codes)) (rw c.in-DontKnowYet-asked.is at c.in-Ok-statements.ensures.walks)
 
 pub if_arm-returns-in-Err-statements-clause-walks : goal.if_arm-returns-in-Err-statements-clause-walks
-if_arm-returns-in-Err-statements-clause-walks g t c = unmade_after (of_part c.args.self.now.flows.now c.test.new.self.flows.now _ (rw c.in-Known.is at c.in-Ok.ensures.codes) c.test.ensures.nodes) c.in-Err-statements.ensures.walks _
+if_arm-returns-in-Err-statements-clause-walks g t c = unmade_after (of_coding _ (rw c.in-Known.is at c.in-Ok.ensures.codes)) c.in-Err-statements.ensures.walks _
 
 pub if_arm-returns-clause-walks : goal.if_arm-returns-clause-walks
 if_arm-returns-clause-walks g t c =
-    let one = (of_part c.args.self.now.flows.now c.test.new.self.flows.now _ (rw c.in-Known.is at c.in-Ok.ensures.codes) c.test.ensures.nodes) in
+    let one = (of_coding _ (rw c.in-Known.is at c.in-Ok.ensures.codes)) in
     let two = (rw c.deref.ensures.value at (rw c.in-Known-asked.is at c.in-Ok-statements.ensures.walks)) in
-    described _ (value_after_both (λ k. test (stand_in k c.args.stand.now) (expr_view (out-IfArm c.args.arm.now).test)) (λ holds k. flow_of (stand_in k c.args.stand.now) (statements (map statement_view (out-IfArm c.args.arm.now).body.items))) (λ p b. arm_before p b) (record { test = Fixed c.in-Known.value; body = c.in-Known-asked.value }) one two (Grows-refl c.statements.new.self.flows.now) (in_later two.grows c.in-Known.value one.there, two.there)
+    described _ (value_after_both (λ k. test (stand_in k c.args.stand.now) (expr_view (out-IfArm c.args.arm.now).test)) (λ holds k. flow_of (stand_in k c.args.stand.now) (statements (map statement_view (out-IfArm c.args.arm.now).body.items))) (λ p b. arm_before p b) (record { test = Fixed c.in-Known.value; body = c.in-Known-asked.value }) one two (Grows-refl c.statements.new.self.fragments.now.nodes.items) (in_later two.grows c.in-Known.value one.there, two.there)
     (λ u m a b cell. arm_same two.grows c.in-Known.value c.in-Known-asked.value one.there u m a b cell))
     (λ k. ap (arm_flow (stand_in k c.args.stand.now)) (sym (if_arm_seen c.args.arm.now)))
 
 pub if_arms_made-loop-arm-init : goal.if_arms_made-loop-arm-init
 if_arms_made-loop-arm-init g t c = (
   Keeps-refl c.args.self.now,
-  (value_alone (g.S.Scopes.state c.args.self.now.scopes.now) c.args.self.now.notes.now c.args.self.now.flows.now c.args.stand.now.site.now c.new-made.result AreArms arms_in (λ k. λ other. other) (no_arms_there (g.S.Scopes.state c.args.self.now.scopes.now).frame c.args.self.now.flows.now c.new-made.result c.new-made.ensures.items) (λ k cell. no_arms_in c.args.self.now.flows.now c.new-made.result c.new-made.ensures.items cell)),
+  (value_alone (g.S.Scopes.state c.args.self.now.scopes.now) c.args.self.now.notes.now c.args.self.now.fragments.now.nodes.items c.args.stand.now.site.now c.new-made.result AreArms arms_in (λ k. λ other. other) (no_arms_there (g.S.Scopes.state c.args.self.now.scopes.now).frame c.args.self.now.fragments.now.nodes.items c.new-made.result c.new-made.ensures.items) (λ k cell. no_arms_in c.args.self.now.fragments.now.nodes.items c.new-made.result c.new-made.ensures.items cell)),
 )
 
 pub if_arms_made-if_arm-requires : goal.if_arms_made-if_arm-requires
@@ -157,11 +163,10 @@ pub if_arms_made-loop-arm-preserved : goal.if_arms_made-loop-arm-preserved
 if_arms_made-loop-arm-preserved g t c = (
   Keeps-trans c.loop-arm.invariant.0 c.if_arm.ensures.keeps,
   (let one = (rw c.in-Known.is at c.in-Ok.ensures.walks) in
-      let sound = sound_after c.loop-arm.invariant.1 c.requires.sound in
       let pushed : c.push.new.self.items ≡ c.loop-arm.made.items ++ c.in-Known.value ∷ [] = c.in_ok-push.ensures.items in
       let f = (g.S.Scopes.state c.args.self.now.scopes.now).frame in
       one_more (λ k o i. arm_flow (stand_in k c.args.stand.now) (if_arm_view i)) behind_arm (λ other. other) c.args.arms.now c.loop-arm.arm-index c.push.new.self c.arm-item.result c.loop-arm-test.true c.arm-item.is c.loop-arm.invariant.1 one
-      (arms_there sound one.grows f c.loop-arm.made c.push.new.self c.in-Known.value pushed c.loop-arm.invariant.1.there one.there) (arms_more sound one.grows f c.loop-arm.made c.push.new.self c.in-Known.value pushed c.loop-arm.invariant.1.there)),
+      (arms_there one.grows f c.loop-arm.made c.push.new.self c.in-Known.value pushed c.loop-arm.invariant.1.there one.there) (arms_more one.grows f c.loop-arm.made c.push.new.self c.in-Known.value pushed c.loop-arm.invariant.1.there)),
 )
 
 pub if_arms_made-returns-in-DontKnowYet-clause-walks : goal.if_arms_made-returns-in-DontKnowYet-clause-walks
@@ -196,9 +201,12 @@ if_statement-returns-in-DontKnowYet-asked-clause-walks g t c = unknown_after (rw
 pub if_statement-returns-in-Err-otherwise-clause-walks : goal.if_statement-returns-in-Err-otherwise-clause-walks
 if_statement-returns-in-Err-otherwise-clause-walks g t c = unmade_after (rw c.in-Known.is at c.in-Ok.ensures.walks) c.in-Err-otherwise.ensures.walks _
 
+pub if_statement-choice-requires-clause-sound : goal.if_statement-choice-requires-clause-sound
+if_statement-choice-requires-clause-sound g t c = sound_after (rw c.in-Known-asked.is at c.in-Ok-otherwise.ensures.walks) (sound_after (rw c.in-Known.is at c.in-Ok.ensures.walks) c.requires.sound)
+
 pub if_statement-choice-requires-clause-arms : goal.if_statement-choice-requires-clause-arms
 if_statement-choice-requires-clause-arms g t c =
-    arms_kept (sound_after (rw c.in-Known.is at c.in-Ok.ensures.walks) c.requires.sound) (rw c.in-Known-asked.is at c.in-Ok-otherwise.ensures.walks).grows (g.S.Scopes.state c.args.self.now.scopes.now).frame c.in-Known.value (rw c.in-Known.is at c.in-Ok.ensures.walks).there
+    arms_kept (rw c.in-Known-asked.is at c.in-Ok-otherwise.ensures.walks).grows (g.S.Scopes.state c.args.self.now.scopes.now).frame c.in-Known.value (rw c.in-Known.is at c.in-Ok.ensures.walks).there
 
 pub if_statement-choice-requires-clause-other : goal.if_statement-choice-requires-clause-other
 if_statement-choice-requires-clause-other g t c = (rw c.in-Known-asked.is at c.in-Ok-otherwise.ensures.walks).there
@@ -208,7 +216,7 @@ if_statement-returns-clause-walks g t c =
     let one = (rw c.in-Known.is at c.in-Ok.ensures.walks) in
     let two = (rw c.in-Known-asked.is at c.in-Ok-otherwise.ensures.walks) in
     by_answer c.choice.result c.answered.result c.answered.ensures
-    (described _ (made_after_both (λ k. arms_flow (stand_in k c.args.stand.now) (if_arms (map if_arm_view c.args.arms.now))) (λ before k. otherwise (stand_in k c.args.stand.now) (statements (map statement_view c.args.other.now))) (λ before other. flow_or_nothing (before other)) c.choice.result one two c.choice.ensures.made (choice_same (sound_after one c.requires.sound) two.grows (g.S.Scopes.state c.args.self.now.scopes.now).frame c.in-Known.value c.in-Known-asked.value one.there))
+    (described _ (made_after_both (λ k. arms_flow (stand_in k c.args.stand.now) (if_arms (map if_arm_view c.args.arms.now))) (λ before k. otherwise (stand_in k c.args.stand.now) (statements (map statement_view c.args.other.now))) (λ before other. flow_or_nothing (before other)) c.choice.result one two c.choice.ensures (choice_same two.grows (g.S.Scopes.state c.args.self.now.scopes.now).frame c.in-Known.value c.in-Known-asked.value one.there))
     (λ k. if_given (stand_in k c.args.stand.now) (if_arms (map if_arm_view c.args.arms.now)) (statements (map statement_view c.args.other.now))))
 
 pub loop_statement-statements-requires : goal.loop_statement-statements-requires
@@ -221,48 +229,45 @@ loop_statement-returns-in-DontKnowYet-clause-walks g t c = unknown (rw c.in-Dont
 pub loop_statement-returns-in-Err-clause-walks : goal.loop_statement-returns-in-Err-clause-walks
 loop_statement-returns-in-Err-clause-walks g t c = unmade c.in-Err.ensures.walks _
 
-pub loop_statement-for_ever-requires : goal.loop_statement-for_ever-requires
-loop_statement-for_ever-requires g t c = record { body = (rw c.in-Known.is at c.in-Ok.ensures.walks).there }
-
 pub loop_statement-returns-clause-walks : goal.loop_statement-returns-clause-walks
 loop_statement-returns-clause-walks g t c =
     by_answer c.for_ever.result c.answered.result c.answered.ensures
-    (made_after (λ k. flow_of (in_loop (stand_in k c.args.stand.now)) (statements (map statement_view c.args.body.now))) (λ b. for_ever b) c.for_ever.result (rw c.in-Known.is at c.in-Ok.ensures.walks) c.for_ever.ensures.made (λ u same cell. ap for_ever (same cell)))
+    (made_after (λ k. flow_of (in_loop (stand_in k c.args.stand.now)) (statements (map statement_view c.args.body.now))) (λ b. for_ever b) c.for_ever.result (rw c.in-Known.is at c.in-Ok.ensures.walks) (c.for_ever.ensures c.statements.new.self.fragments.now.nodes.items (rw c.in-Known.is at c.in-Ok.ensures.walks).there) (λ u same cell. ap for_ever (same cell)))
 
 pub case_arm-case_labels-requires-clause-read : goal.case_arm-case_labels-requires-clause-read
 case_arm-case_labels-requires-clause-read g t c = rw c.deref.ensures.value (case_arm_read c.args.stand.now.site.now.texts.now.names c.args.arm.now c.requires.read).0
 
 pub case_arm-returns-in-DontKnowYet-clause-walks : goal.case_arm-returns-in-DontKnowYet-clause-walks
-case_arm-returns-in-DontKnowYet-clause-walks g t c = unknown (of_labels c.args.self.now.flows.now (Ok (DontKnowYet c.in-DontKnowYet.head)) (rw c.in-DontKnowYet.is at c.in-Ok.ensures))
+case_arm-returns-in-DontKnowYet-clause-walks g t c = unknown (of_labels c.args.self.now.fragments.now.nodes.items (Ok (DontKnowYet c.in-DontKnowYet.head)) (rw c.in-DontKnowYet.is at c.in-Ok.ensures))
 
 pub case_arm-returns-in-Err-clause-walks : goal.case_arm-returns-in-Err-clause-walks
-case_arm-returns-in-Err-clause-walks g t c = unmade (of_labels c.args.self.now.flows.now (Err c.in-Err.memory) c.in-Err.ensures) _
+case_arm-returns-in-Err-clause-walks g t c = unmade (of_labels c.args.self.now.fragments.now.nodes.items (Err c.in-Err.memory) c.in-Err.ensures) _
 
 pub case_arm-statements-requires : goal.case_arm-statements-requires
 case_arm-statements-requires g t c κs within =
-    ((let small = case_arm_smaller c.args.arm.now in let same0 = ap (most size-Statement) c.deref-2.ensures.value in omega (arith, small, same0, c.decreases)), (within, (stand_after (of_labels c.args.self.now.flows.now (Ok (Known c.in-Known.value)) (rw c.in-Known.is at c.in-Ok.ensures)) c.args.stand.now c.requires.stand, (sound_after (of_labels c.args.self.now.flows.now (Ok (Known c.in-Known.value)) (rw c.in-Known.is at c.in-Ok.ensures)) c.requires.sound, (rw c.deref-2.ensures.value (case_arm_read c.args.stand.now.site.now.texts.now.names c.args.arm.now c.requires.read).1)))))
+    ((let small = case_arm_smaller c.args.arm.now in let same0 = ap (most size-Statement) c.deref-2.ensures.value in omega (arith, small, same0, c.decreases)), (within, (stand_after (of_labels c.args.self.now.fragments.now.nodes.items (Ok (Known c.in-Known.value)) (rw c.in-Known.is at c.in-Ok.ensures)) c.args.stand.now c.requires.stand, (sound_after (of_labels c.args.self.now.fragments.now.nodes.items (Ok (Known c.in-Known.value)) (rw c.in-Known.is at c.in-Ok.ensures)) c.requires.sound, (rw c.deref-2.ensures.value (case_arm_read c.args.stand.now.site.now.texts.now.names c.args.arm.now c.requires.read).1)))))
 
 pub case_arm-returns-in-DontKnowYet-asked-clause-walks : goal.case_arm-returns-in-DontKnowYet-asked-clause-walks
 case_arm-returns-in-DontKnowYet-asked-clause-walks g t c =
-    unknown_after (of_labels c.args.self.now.flows.now (Ok (Known c.in-Known.value)) (rw c.in-Known.is at c.in-Ok.ensures)) (rw c.in-DontKnowYet-asked.is at c.in-Ok-statements.ensures.walks)
+    unknown_after (of_labels c.args.self.now.fragments.now.nodes.items (Ok (Known c.in-Known.value)) (rw c.in-Known.is at c.in-Ok.ensures)) (rw c.in-DontKnowYet-asked.is at c.in-Ok-statements.ensures.walks)
 
 pub case_arm-returns-in-Err-statements-clause-walks : goal.case_arm-returns-in-Err-statements-clause-walks
-case_arm-returns-in-Err-statements-clause-walks g t c = unmade_after (of_labels c.args.self.now.flows.now (Ok (Known c.in-Known.value)) (rw c.in-Known.is at c.in-Ok.ensures)) c.in-Err-statements.ensures.walks _
+case_arm-returns-in-Err-statements-clause-walks g t c = unmade_after (of_labels c.args.self.now.fragments.now.nodes.items (Ok (Known c.in-Known.value)) (rw c.in-Known.is at c.in-Ok.ensures)) c.in-Err-statements.ensures.walks _
 
 pub case_arm-returns-clause-walks : goal.case_arm-returns-clause-walks
 case_arm-returns-clause-walks g t c =
-    let one = (rw c.deref.ensures.value at (of_labels c.args.self.now.flows.now (Ok (Known c.in-Known.value)) (rw c.in-Known.is at c.in-Ok.ensures))) in
+    let one = (rw c.deref.ensures.value at (of_labels c.args.self.now.fragments.now.nodes.items (Ok (Known c.in-Known.value)) (rw c.in-Known.is at c.in-Ok.ensures))) in
     let two = (rw c.deref-2.ensures.value at (rw c.in-Known-asked.is at c.in-Ok-statements.ensures.walks)) in
     let v = c.in-Known.value in
     let body = c.in-Known-asked.value in
-    described _ (value_after_both (λ k. labels_of k c.args.of c.args.covered (labels (map label_view (out-CaseArm c.args.arm.now).labels.items))) (λ l k. flow_of (stand_in k c.args.stand.now) (statements (map statement_view (out-CaseArm c.args.arm.now).body.items))) (λ l b. arm_of l b) (record { arm = record { test = Labels v.tests; body = body }; covered = v.covered }) one two (Grows-refl c.statements.new.self.flows.now) (tt, two.there)
-    (λ u m a b cell. arm_given c.statements.new.self.flows.now v body u m (a 0) b cell))
+    described _ (value_after_both (λ k. labels_of k c.args.of c.args.covered (labels (map label_view (out-CaseArm c.args.arm.now).labels.items))) (λ l k. flow_of (stand_in k c.args.stand.now) (statements (map statement_view (out-CaseArm c.args.arm.now).body.items))) (λ l b. arm_of l b) (record { arm = record { test = Labels v.tests; body = body }; covered = v.covered }) one two (Grows-refl c.statements.new.self.fragments.now.nodes.items) (tt, two.there)
+    (λ u m a b cell. arm_given c.statements.new.self.fragments.now.nodes.items v body u m (a 0) b cell))
     (λ k. ap (case_flow (stand_in k c.args.stand.now) c.args.of c.args.covered) (sym (case_arm_seen c.args.arm.now)))
 
 pub case_arms_made-loop-arm-init : goal.case_arms_made-loop-arm-init
 case_arms_made-loop-arm-init g t c = (
   Keeps-refl c.args.self.now,
-  (value_alone (g.S.Scopes.state c.args.self.now.scopes.now) c.args.self.now.notes.now c.args.self.now.flows.now c.args.stand.now.site.now (c.new-made.result, c.new-covered.result) AreSoFar so_far_in (λ k. (record { flow = λ t other. other; covered = [] })) (no_arms_there (g.S.Scopes.state c.args.self.now.scopes.now).frame c.args.self.now.flows.now c.new-made.result c.new-made.ensures.items) (λ k cell. none_so_far c.args.self.now.flows.now c.new-made.result c.new-covered.result c.new-made.ensures.items c.new-covered.ensures cell)),
+  (value_alone (g.S.Scopes.state c.args.self.now.scopes.now) c.args.self.now.notes.now c.args.self.now.fragments.now.nodes.items c.args.stand.now.site.now (c.new-made.result, c.new-covered.result) AreSoFar so_far_in (λ k. (record { flow = λ t other. other; covered = [] })) (no_arms_there (g.S.Scopes.state c.args.self.now.scopes.now).frame c.args.self.now.fragments.now.nodes.items c.new-made.result c.new-made.ensures.items) (λ k cell. none_so_far c.args.self.now.fragments.now.nodes.items c.new-made.result c.new-covered.result c.new-made.ensures.items c.new-covered.ensures cell)),
 )
 
 pub case_arms_made-case_arm-requires : goal.case_arms_made-case_arm-requires
@@ -273,12 +278,11 @@ pub case_arms_made-loop-arm-preserved : goal.case_arms_made-loop-arm-preserved
 case_arms_made-loop-arm-preserved g t c = (
   Keeps-trans c.loop-arm.invariant.0 c.case_arm.ensures.keeps,
   (let one = (rw c.in-Known.is at c.in-Ok.ensures.walks) in
-      let sound = sound_after c.loop-arm.invariant.1 c.requires.sound in
       let x = c.in-Known.value in
       let pushed : c.push.new.self.items ≡ c.loop-arm.made.items ++ x.arm ∷ [] = c.in_ok-push.ensures.items in
       let f = (g.S.Scopes.state c.args.self.now.scopes.now).frame in
       one_more (λ k o i. case_flow (stand_in k c.args.stand.now) c.args.of o.covered (case_arm_view i)) behind_case (record { flow = λ t other. other; covered = [] }) c.args.arms.now c.loop-arm.arm-index (c.push.new.self, x.covered) c.arm-item.result c.loop-arm-test.true c.arm-item.is c.loop-arm.invariant.1 one
-      (arms_there sound one.grows f c.loop-arm.made c.push.new.self x.arm pushed c.loop-arm.invariant.1.there one.there) (cases_more sound one.grows f c.loop-arm.made c.push.new.self c.loop-arm.covered x pushed c.loop-arm.invariant.1.there)),
+      (arms_there one.grows f c.loop-arm.made c.push.new.self x.arm pushed c.loop-arm.invariant.1.there one.there) (cases_more one.grows f c.loop-arm.made c.push.new.self c.loop-arm.covered x pushed c.loop-arm.invariant.1.there)),
 )
 
 pub case_arms_made-returns-in-DontKnowYet-clause-walks : goal.case_arms_made-returns-in-DontKnowYet-clause-walks
@@ -294,7 +298,7 @@ pub case_arms_made-returns-clause-walks : goal.case_arms_made-returns-clause-wal
 case_arms_made-returns-clause-walks g t c =
     let h : Context → Arm → CaseArm → Gives Arm = (λ k o i. case_flow (stand_in k c.args.stand.now) c.args.of o.covered (case_arm_view i)) in
     let first : Arm = (record { flow = λ t other. other; covered = [] }) in
-    described _ (value_after (λ k. folded (step h behind_case k) first c.args.arms.now) (λ b. b.flow) c.loop-arm.made (whole h behind_case first c.args.arms.now c.loop-arm.arm-index (λ k. folded (step h behind_case k) first c.args.arms.now) c.loop-arm-test.false c.loop-arm.invariant.1 (λ k. refl)) (Grows-refl c.loop-arm.self.flows.now) c.loop-arm.invariant.1.there (λ u same cell. ap (λ (a : Arm). a.flow) (same cell)))
+    described _ (value_after (λ k. folded (step h behind_case k) first c.args.arms.now) (λ b. b.flow) c.loop-arm.made (whole h behind_case first c.args.arms.now c.loop-arm.arm-index (λ k. folded (step h behind_case k) first c.args.arms.now) c.loop-arm-test.false c.loop-arm.invariant.1 (λ k. refl)) (Grows-refl c.loop-arm.self.fragments.now.nodes.items) c.loop-arm.invariant.1.there (λ u same cell. ap (λ (a : Arm). a.flow) (same cell)))
     (λ k. cases_folded (stand_in k c.args.stand.now) case_arm_view c.args.of c.args.arms.now)
 
 pub case_else-returns-in-None-clause-walks : goal.case_else-returns-in-None-clause-walks
@@ -338,7 +342,7 @@ case_of-case_made-requires-clause-value g t c =
 
 pub case_of-case_made-requires-clause-arms : goal.case_of-case_made-requires-clause-arms
 case_of-case_made-requires-clause-arms g t c =
-    arms_kept (sound_after (rw c.in-Known.is at c.in-Ok.ensures.walks) c.requires.sound) (rw c.in-Known-asked.is at c.in-Ok-case_else.ensures.walks).grows (g.S.Scopes.state c.args.self.now.scopes.now).frame c.in-Known.value (rw c.in-Known.is at c.in-Ok.ensures.walks).there
+    arms_kept (rw c.in-Known-asked.is at c.in-Ok-case_else.ensures.walks).grows (g.S.Scopes.state c.args.self.now.scopes.now).frame c.in-Known.value (rw c.in-Known.is at c.in-Ok.ensures.walks).there
 
 pub case_of-case_made-requires-clause-other : goal.case_of-case_made-requires-clause-other
 case_of-case_made-requires-clause-other g t c = (rw c.in-Known-asked.is at c.in-Ok-case_else.ensures.walks).there
@@ -347,56 +351,59 @@ pub case_of-returns-clause-walks : goal.case_of-returns-clause-walks
 case_of-returns-clause-walks g t c =
     let one = (rw c.in-Known.is at c.in-Ok.ensures.walks) in
     let two = (rw c.in-Known-asked.is at c.in-Ok-case_else.ensures.walks) in
-    let value = part c.args.self.now.flows.now.fragments.nodes.items c.args.x.value in
+    let value = part c.args.self.now.fragments.now.nodes.items c.args.x.value in
     by_answer c.case_made.result c.answered.result c.answered.ensures
     (made_after_both (λ k. cases_flow (stand_in k c.args.stand.now) c.args.x.of [] (case_arms (map case_arm_view c.args.arms.now))) (λ before k. else_flow (stand_in k c.args.stand.now) (case_else_seen c.args.other.now)) (λ before other. stored_before value (λ n. before n other)) c.case_made.result one two c.case_made.ensures
-    (λ u m a b cell. case_same (sound_after one c.requires.sound) two.grows one.grows c.args.x.value c.requires.x.0 (g.S.Scopes.state c.args.self.now.scopes.now).frame c.in-Known.value c.in-Known-asked.value one.there u m a b))
+    (λ u m a b cell. case_same two.grows one.grows c.args.x.value c.requires.x.0 (g.S.Scopes.state c.args.self.now.scopes.now).frame c.in-Known.value c.in-Known-asked.value one.there u m a b))
 
 pub case_statement-returns-in-DontKnowYet-clause-walks : goal.case_statement-returns-in-DontKnowYet-clause-walks
-case_statement-returns-in-DontKnowYet-clause-walks g t c = unknown (of_part c.args.self.now.flows.now c.selector.new.self.flows.now _ (rw c.in-DontKnowYet.is at c.in-Ok.ensures.codes) c.selector.ensures.nodes)
+case_statement-returns-in-DontKnowYet-clause-walks g t c = unknown (of_coding _ (rw c.in-DontKnowYet.is at c.in-Ok.ensures.codes))
 
 pub case_statement-returns-in-Err-clause-walks : goal.case_statement-returns-in-Err-clause-walks
-case_statement-returns-in-Err-clause-walks g t c = unmade (of_part c.args.self.now.flows.now c.selector.new.self.flows.now _ c.in-Err.ensures.codes c.selector.ensures.nodes) _
+case_statement-returns-in-Err-clause-walks g t c = unmade (of_coding _ c.in-Err.ensures.codes) _
 
 pub case_statement-case_of-requires : goal.case_statement-case_of-requires
 case_statement-case_of-requires g t c κs within =
-    (omega (arith, c.decreases), (within, (stand_after (of_part c.args.self.now.flows.now c.selector.new.self.flows.now _ (rw c.in-Known.is at c.in-Ok.ensures.codes) c.selector.ensures.nodes) c.args.stand.now c.requires.stand, (sound_after (of_part c.args.self.now.flows.now c.selector.new.self.flows.now _ (rw c.in-Known.is at c.in-Ok.ensures.codes) c.selector.ensures.nodes) c.requires.sound, (stands_after (of_part c.args.self.now.flows.now c.selector.new.self.flows.now _ (rw c.in-Known.is at c.in-Ok.ensures.codes) c.selector.ensures.nodes), (c.requires.arms, (c.requires.other)))))))
+    (omega (arith, c.decreases), (within, (stand_after (of_coding _ (rw c.in-Known.is at c.in-Ok.ensures.codes)) c.args.stand.now c.requires.stand, (sound_after (of_coding _ (rw c.in-Known.is at c.in-Ok.ensures.codes)) c.requires.sound, (stands_after (of_coding _ (rw c.in-Known.is at c.in-Ok.ensures.codes)), (c.requires.arms, (c.requires.other)))))))
 
 pub case_statement-returns-clause-walks : goal.case_statement-returns-clause-walks
 case_statement-returns-clause-walks g t c =
-    described _ (flowing_after (λ k. selector (stand_in k c.args.stand.now) (expr_view c.args.value.now)) (λ x k. case_of (stand_in k c.args.stand.now) x.0 x.1 (case_arms (map case_arm_view c.args.arms.now)) (case_else_seen c.args.other.now)) c.case_of.result (of_part c.args.self.now.flows.now c.selector.new.self.flows.now _ (rw c.in-Known.is at c.in-Ok.ensures.codes) c.selector.ensures.nodes) c.case_of.ensures.walks)
+    described _ (flowing_after (λ k. selector (stand_in k c.args.stand.now) (expr_view c.args.value.now)) (λ x k. case_of (stand_in k c.args.stand.now) x.0 x.1 (case_arms (map case_arm_view c.args.arms.now)) (case_else_seen c.args.other.now)) c.case_of.result (of_coding _ (rw c.in-Known.is at c.in-Ok.ensures.codes)) c.case_of.ensures.walks)
     (λ k. case_given (stand_in k c.args.stand.now) (expr_view c.args.value.now) (case_arms (map case_arm_view c.args.arms.now)) (case_else_seen c.args.other.now))
 
 pub while_statement-returns-in-DontKnowYet-clause-walks : goal.while_statement-returns-in-DontKnowYet-clause-walks
-while_statement-returns-in-DontKnowYet-clause-walks g t c = unknown (of_part c.args.self.now.flows.now c.test.new.self.flows.now _ (rw c.in-DontKnowYet.is at c.in-Ok.ensures.codes) c.test.ensures.nodes)
+while_statement-returns-in-DontKnowYet-clause-walks g t c = unknown (of_coding _ (rw c.in-DontKnowYet.is at c.in-Ok.ensures.codes))
 
 pub while_statement-returns-in-Err-clause-walks : goal.while_statement-returns-in-Err-clause-walks
-while_statement-returns-in-Err-clause-walks g t c = unmade (of_part c.args.self.now.flows.now c.test.new.self.flows.now _ c.in-Err.ensures.codes c.test.ensures.nodes) _
+while_statement-returns-in-Err-clause-walks g t c = unmade (of_coding _ c.in-Err.ensures.codes) _
 
 pub while_statement-statements-requires : goal.while_statement-statements-requires
 while_statement-statements-requires g t c κs within =
-    (omega (arith, c.decreases), (within, (stand_after (of_part c.args.self.now.flows.now c.test.new.self.flows.now _ (rw c.in-Known.is at c.in-Ok.ensures.codes) c.test.ensures.nodes) c.args.stand.now c.requires.stand, (sound_after (of_part c.args.self.now.flows.now c.test.new.self.flows.now _ (rw c.in-Known.is at c.in-Ok.ensures.codes) c.test.ensures.nodes) c.requires.sound, (c.requires.read)))))
+    (omega (arith, c.decreases), (within, (stand_after (of_coding _ (rw c.in-Known.is at c.in-Ok.ensures.codes)) c.args.stand.now c.requires.stand, (sound_after (of_coding _ (rw c.in-Known.is at c.in-Ok.ensures.codes)) c.requires.sound, (c.requires.read)))))
 
 pub while_statement-returns-in-DontKnowYet-asked-clause-walks : goal.while_statement-returns-in-DontKnowYet-asked-clause-walks
 while_statement-returns-in-DontKnowYet-asked-clause-walks g t c =
-    unknown_after (of_part c.args.self.now.flows.now c.test.new.self.flows.now _ (rw c.in-Known.is at c.in-Ok.ensures.codes) c.test.ensures.nodes) (rw c.in-DontKnowYet-asked.is at c.in-Ok-statements.ensures.walks)
+    unknown_after (of_coding _ (rw c.in-Known.is at c.in-Ok.ensures.codes)) (rw c.in-DontKnowYet-asked.is at c.in-Ok-statements.ensures.walks)
 
 pub while_statement-returns-in-Err-statements-clause-walks : goal.while_statement-returns-in-Err-statements-clause-walks
-while_statement-returns-in-Err-statements-clause-walks g t c = unmade_after (of_part c.args.self.now.flows.now c.test.new.self.flows.now _ (rw c.in-Known.is at c.in-Ok.ensures.codes) c.test.ensures.nodes) c.in-Err-statements.ensures.walks _
+while_statement-returns-in-Err-statements-clause-walks g t c = unmade_after (of_coding _ (rw c.in-Known.is at c.in-Ok.ensures.codes)) c.in-Err-statements.ensures.walks _
+
+pub while_statement-while_true-requires-clause-sound : goal.while_statement-while_true-requires-clause-sound
+while_statement-while_true-requires-clause-sound g t c = sound_after (rw c.in-Known-asked.is at c.in-Ok-statements.ensures.walks) (sound_after (of_coding _ (rw c.in-Known.is at c.in-Ok.ensures.codes)) c.requires.sound)
 
 pub while_statement-while_true-requires-clause-test : goal.while_statement-while_true-requires-clause-test
 while_statement-while_true-requires-clause-test g t c =
-    in_later (rw c.in-Known-asked.is at c.in-Ok-statements.ensures.walks).grows c.in-Known.value (of_part c.args.self.now.flows.now c.test.new.self.flows.now _ (rw c.in-Known.is at c.in-Ok.ensures.codes) c.test.ensures.nodes).there
+    in_later (rw c.in-Known-asked.is at c.in-Ok-statements.ensures.walks).grows c.in-Known.value (of_coding _ (rw c.in-Known.is at c.in-Ok.ensures.codes)).there
 
 pub while_statement-while_true-requires-clause-body : goal.while_statement-while_true-requires-clause-body
 while_statement-while_true-requires-clause-body g t c = (rw c.in-Known-asked.is at c.in-Ok-statements.ensures.walks).there
 
 pub while_statement-returns-clause-walks : goal.while_statement-returns-clause-walks
 while_statement-returns-clause-walks g t c =
-    let one = (of_part c.args.self.now.flows.now c.test.new.self.flows.now _ (rw c.in-Known.is at c.in-Ok.ensures.codes) c.test.ensures.nodes) in
+    let one = (of_coding _ (rw c.in-Known.is at c.in-Ok.ensures.codes)) in
     let two = (rw c.in-Known-asked.is at c.in-Ok-statements.ensures.walks) in
     by_answer c.while_true.result c.answered.result c.answered.ensures
-    (made_after_both (λ k. test (stand_in k c.args.stand.now) (expr_view c.args.holds.now)) (λ p k. flow_of (stand_in k c.args.stand.now) (statements (map statement_view c.args.body.now))) (λ p b. while_true p b) c.while_true.result one two c.while_true.ensures.made (while_same two.grows c.in-Known.value c.in-Known-asked.value one.there))
+    (made_after_both (λ k. test (stand_in k c.args.stand.now) (expr_view c.args.holds.now)) (λ p k. flow_of (stand_in k c.args.stand.now) (statements (map statement_view c.args.body.now))) (λ p b. while_true p b) c.while_true.result one two c.while_true.ensures (while_same two.grows c.in-Known.value c.in-Known-asked.value one.there))
 
 pub repeat_statement-statements-requires : goal.repeat_statement-statements-requires
 repeat_statement-statements-requires g t c κs within = (omega (arith, c.decreases), (within, (c.requires.stand, (c.requires.sound, (c.requires.read)))))
@@ -412,156 +419,159 @@ repeat_statement-test-requires-clause-stand g t c = stand_after (rw c.in-Known.i
 
 pub repeat_statement-returns-in-DontKnowYet-asked-clause-walks : goal.repeat_statement-returns-in-DontKnowYet-asked-clause-walks
 repeat_statement-returns-in-DontKnowYet-asked-clause-walks g t c =
-    unknown_after (rw c.in-Known.is at c.in-Ok.ensures.walks) (of_part c.statements.new.self.flows.now c.test.new.self.flows.now _ (rw c.in-DontKnowYet-asked.is at c.in-Ok-test.ensures.codes) c.test.ensures.nodes)
+    unknown_after (rw c.in-Known.is at c.in-Ok.ensures.walks) (of_coding _ (rw c.in-DontKnowYet-asked.is at c.in-Ok-test.ensures.codes))
 
 pub repeat_statement-returns-in-Err-test-clause-walks : goal.repeat_statement-returns-in-Err-test-clause-walks
-repeat_statement-returns-in-Err-test-clause-walks g t c = unmade_after (rw c.in-Known.is at c.in-Ok.ensures.walks) (of_part c.statements.new.self.flows.now c.test.new.self.flows.now _ c.in-Err-test.ensures.codes c.test.ensures.nodes) _
+repeat_statement-returns-in-Err-test-clause-walks g t c = unmade_after (rw c.in-Known.is at c.in-Ok.ensures.walks) (of_coding _ c.in-Err-test.ensures.codes) _
+
+pub repeat_statement-until_true-requires-clause-sound : goal.repeat_statement-until_true-requires-clause-sound
+repeat_statement-until_true-requires-clause-sound g t c = sound_after (of_coding _ (rw c.in-Known-asked.is at c.in-Ok-test.ensures.codes)) (sound_after (rw c.in-Known.is at c.in-Ok.ensures.walks) c.requires.sound)
 
 pub repeat_statement-until_true-requires-clause-body : goal.repeat_statement-until_true-requires-clause-body
 repeat_statement-until_true-requires-clause-body g t c =
-    among_later (of_part c.statements.new.self.flows.now c.test.new.self.flows.now _ (rw c.in-Known-asked.is at c.in-Ok-test.ensures.codes) c.test.ensures.nodes).grows c.in-Known.value (rw c.in-Known.is at c.in-Ok.ensures.walks).there
+    over_later (of_coding _ (rw c.in-Known-asked.is at c.in-Ok-test.ensures.codes)).grows c.in-Known.value (rw c.in-Known.is at c.in-Ok.ensures.walks).there
 
 pub repeat_statement-until_true-requires-clause-test : goal.repeat_statement-until_true-requires-clause-test
-repeat_statement-until_true-requires-clause-test g t c = (of_part c.statements.new.self.flows.now c.test.new.self.flows.now _ (rw c.in-Known-asked.is at c.in-Ok-test.ensures.codes) c.test.ensures.nodes).there
+repeat_statement-until_true-requires-clause-test g t c = (of_coding _ (rw c.in-Known-asked.is at c.in-Ok-test.ensures.codes)).there
 
 pub repeat_statement-returns-clause-walks : goal.repeat_statement-returns-clause-walks
 repeat_statement-returns-clause-walks g t c =
     let one = (rw c.in-Known.is at c.in-Ok.ensures.walks) in
-    let two = (of_part c.statements.new.self.flows.now c.test.new.self.flows.now _ (rw c.in-Known-asked.is at c.in-Ok-test.ensures.codes) c.test.ensures.nodes) in
-    let after = c.test.new.self.flows.now in
+    let two = (of_coding _ (rw c.in-Known-asked.is at c.in-Ok-test.ensures.codes)) in
+    let after = c.test.new.self.fragments.now.nodes.items in
     by_answer c.until_true.result c.answered.result c.answered.ensures
-    (made_after_both (λ k. flow_of (stand_in k c.args.stand.now) (statements (map statement_view c.args.body.now))) (λ b k. test (stand_in k c.args.stand.now) (expr_view c.args.holds.now)) (λ b p. until_true b p) c.until_true.result one two c.until_true.ensures.made (until_same after two.grows c.in-Known-asked.value c.in-Known.value (sound_after one c.requires.sound) one.there))
+    (made_after_both (λ k. flow_of (stand_in k c.args.stand.now) (statements (map statement_view c.args.body.now))) (λ b k. test (stand_in k c.args.stand.now) (expr_view c.args.holds.now)) (λ b p. until_true b p) c.until_true.result one two c.until_true.ensures (until_same after two.grows c.in-Known-asked.value c.in-Known.value one.there))
 
 pub for_statement-returns-in-DontKnowYet-clause-walks : goal.for_statement-returns-in-DontKnowYet-clause-walks
-for_statement-returns-in-DontKnowYet-clause-walks g t c = unknown (of_part c.args.self.now.flows.now c.control_variable.new.self.flows.now _ (rw c.in-DontKnowYet.is at c.in-Ok.ensures.codes) c.control_variable.ensures.nodes)
+for_statement-returns-in-DontKnowYet-clause-walks g t c = unknown (of_coding _ (rw c.in-DontKnowYet.is at c.in-Ok.ensures.codes))
 
 pub for_statement-returns-in-Err-clause-walks : goal.for_statement-returns-in-Err-clause-walks
-for_statement-returns-in-Err-clause-walks g t c = unmade (of_part c.args.self.now.flows.now c.control_variable.new.self.flows.now _ c.in-Err.ensures.codes c.control_variable.ensures.nodes) _
+for_statement-returns-in-Err-clause-walks g t c = unmade (of_coding _ c.in-Err.ensures.codes) _
 
 pub for_statement-check_bound-requires-clause-stand : goal.for_statement-check_bound-requires-clause-stand
-for_statement-check_bound-requires-clause-stand g t c = stand_after (of_part c.args.self.now.flows.now c.control_variable.new.self.flows.now _ (rw c.in-Known.is at c.in-Ok.ensures.codes) c.control_variable.ensures.nodes) c.args.stand.now c.requires.stand
+for_statement-check_bound-requires-clause-stand g t c = stand_after (of_coding _ (rw c.in-Known.is at c.in-Ok.ensures.codes)) c.args.stand.now c.requires.stand
 
 pub for_statement-check_bound-requires-clause-x : goal.for_statement-check_bound-requires-clause-x
-for_statement-check_bound-requires-clause-x g t c = stands_after (of_part c.args.self.now.flows.now c.control_variable.new.self.flows.now _ (rw c.in-Known.is at c.in-Ok.ensures.codes) c.control_variable.ensures.nodes)
+for_statement-check_bound-requires-clause-x g t c = stands_after (of_coding _ (rw c.in-Known.is at c.in-Ok.ensures.codes))
 
 pub for_statement-returns-in-DontKnowYet-asked-clause-walks : goal.for_statement-returns-in-DontKnowYet-asked-clause-walks
 for_statement-returns-in-DontKnowYet-asked-clause-walks g t c =
-    let one = of_part c.args.self.now.flows.now c.control_variable.new.self.flows.now _ (rw c.in-Known.is at c.in-Ok.ensures.codes) c.control_variable.ensures.nodes in
-    unknown_after one (of_part c.control_variable.new.self.flows.now c.check_bound.new.self.flows.now _ (rw c.in-DontKnowYet-asked.is at c.in-Ok-check_bound.ensures.codes) c.check_bound.ensures.nodes)
+    let one = of_coding _ (rw c.in-Known.is at c.in-Ok.ensures.codes) in
+    unknown_after one (of_coding _ (rw c.in-DontKnowYet-asked.is at c.in-Ok-check_bound.ensures.codes))
 
 pub for_statement-returns-in-Err-check_bound-clause-walks : goal.for_statement-returns-in-Err-check_bound-clause-walks
 for_statement-returns-in-Err-check_bound-clause-walks g t c =
-    let one = of_part c.args.self.now.flows.now c.control_variable.new.self.flows.now _ (rw c.in-Known.is at c.in-Ok.ensures.codes) c.control_variable.ensures.nodes in
-    unmade_after one (of_part c.control_variable.new.self.flows.now c.check_bound.new.self.flows.now _ c.in-Err-check_bound.ensures.codes c.check_bound.ensures.nodes) _
+    let one = of_coding _ (rw c.in-Known.is at c.in-Ok.ensures.codes) in
+    unmade_after one (of_coding _ c.in-Err-check_bound.ensures.codes) _
 
 pub for_statement-check_bound-requires-2-clause-stand : goal.for_statement-check_bound-requires-2-clause-stand
 for_statement-check_bound-requires-2-clause-stand g t c =
-    let one = of_part c.args.self.now.flows.now c.control_variable.new.self.flows.now _ (rw c.in-Known.is at c.in-Ok.ensures.codes) c.control_variable.ensures.nodes in
-    let two = of_part c.control_variable.new.self.flows.now c.check_bound.new.self.flows.now _ (rw c.in-Known-asked.is at c.in-Ok-check_bound.ensures.codes) c.check_bound.ensures.nodes in
+    let one = of_coding _ (rw c.in-Known.is at c.in-Ok.ensures.codes) in
+    let two = of_coding _ (rw c.in-Known-asked.is at c.in-Ok-check_bound.ensures.codes) in
     stand_after two c.args.stand.now (stand_after one c.args.stand.now c.requires.stand)
 
 pub for_statement-check_bound-requires-2-clause-x : goal.for_statement-check_bound-requires-2-clause-x
 for_statement-check_bound-requires-2-clause-x g t c =
-    let one = of_part c.args.self.now.flows.now c.control_variable.new.self.flows.now _ (rw c.in-Known.is at c.in-Ok.ensures.codes) c.control_variable.ensures.nodes in
-    let two = of_part c.control_variable.new.self.flows.now c.check_bound.new.self.flows.now _ (rw c.in-Known-asked.is at c.in-Ok-check_bound.ensures.codes) c.check_bound.ensures.nodes in
+    let one = of_coding _ (rw c.in-Known.is at c.in-Ok.ensures.codes) in
+    let two = of_coding _ (rw c.in-Known-asked.is at c.in-Ok-check_bound.ensures.codes) in
     stays_coded two.works.keeps.frame two.grows c.in-Known.value (stands_after one)
 
 pub for_statement-returns-in-DontKnowYet-asked-2-clause-walks : goal.for_statement-returns-in-DontKnowYet-asked-2-clause-walks
 for_statement-returns-in-DontKnowYet-asked-2-clause-walks g t c =
-    let one = of_part c.args.self.now.flows.now c.control_variable.new.self.flows.now _ (rw c.in-Known.is at c.in-Ok.ensures.codes) c.control_variable.ensures.nodes in
-    let two = of_part c.control_variable.new.self.flows.now c.check_bound.new.self.flows.now _ (rw c.in-Known-asked.is at c.in-Ok-check_bound.ensures.codes) c.check_bound.ensures.nodes in
-    unknown_behind (Works-trans one.works two.works) (Grows-trans one.grows two.grows) (of_part c.check_bound.new.self.flows.now c.check_bound-2.new.self.flows.now _ (rw c.in-DontKnowYet-asked-2.is at c.in-Ok-check_bound-2.ensures.codes) c.check_bound-2.ensures.nodes)
+    let one = of_coding _ (rw c.in-Known.is at c.in-Ok.ensures.codes) in
+    let two = of_coding _ (rw c.in-Known-asked.is at c.in-Ok-check_bound.ensures.codes) in
+    unknown_behind (Works-trans one.works two.works) (Grows-trans one.grows two.grows) (of_coding _ (rw c.in-DontKnowYet-asked-2.is at c.in-Ok-check_bound-2.ensures.codes))
 
 pub for_statement-returns-in-Err-check_bound-2-clause-walks : goal.for_statement-returns-in-Err-check_bound-2-clause-walks
 for_statement-returns-in-Err-check_bound-2-clause-walks g t c =
-    let one = of_part c.args.self.now.flows.now c.control_variable.new.self.flows.now _ (rw c.in-Known.is at c.in-Ok.ensures.codes) c.control_variable.ensures.nodes in
-    let two = of_part c.control_variable.new.self.flows.now c.check_bound.new.self.flows.now _ (rw c.in-Known-asked.is at c.in-Ok-check_bound.ensures.codes) c.check_bound.ensures.nodes in
-    unmade_behind (Works-trans one.works two.works) (Grows-trans one.grows two.grows) (of_part c.check_bound.new.self.flows.now c.check_bound-2.new.self.flows.now _ c.in-Err-check_bound-2.ensures.codes c.check_bound-2.ensures.nodes) _
+    let one = of_coding _ (rw c.in-Known.is at c.in-Ok.ensures.codes) in
+    let two = of_coding _ (rw c.in-Known-asked.is at c.in-Ok-check_bound.ensures.codes) in
+    unmade_behind (Works-trans one.works two.works) (Grows-trans one.grows two.grows) (of_coding _ c.in-Err-check_bound-2.ensures.codes) _
 
 pub for_statement-check_step-requires-clause-suits : goal.for_statement-check_step-requires-clause-suits
 for_statement-check_step-requires-clause-suits g t c =
-    let one = of_part c.args.self.now.flows.now c.control_variable.new.self.flows.now _ (rw c.in-Known.is at c.in-Ok.ensures.codes) c.control_variable.ensures.nodes in
-    let two = of_part c.control_variable.new.self.flows.now c.check_bound.new.self.flows.now _ (rw c.in-Known-asked.is at c.in-Ok-check_bound.ensures.codes) c.check_bound.ensures.nodes in
-    let three = of_part c.check_bound.new.self.flows.now c.check_bound-2.new.self.flows.now _ (rw c.in-Known-asked-2.is at c.in-Ok-check_bound-2.ensures.codes) c.check_bound-2.ensures.nodes in
+    let one = of_coding _ (rw c.in-Known.is at c.in-Ok.ensures.codes) in
+    let two = of_coding _ (rw c.in-Known-asked.is at c.in-Ok-check_bound.ensures.codes) in
+    let three = of_coding _ (rw c.in-Known-asked-2.is at c.in-Ok-check_bound-2.ensures.codes) in
     suits_after three (suits_after two (suits_after one c.requires.stand.suits))
 
 pub for_statement-returns-in-DontKnowYet-asked-3-clause-walks : goal.for_statement-returns-in-DontKnowYet-asked-3-clause-walks
 for_statement-returns-in-DontKnowYet-asked-3-clause-walks g t c =
-    let one = of_part c.args.self.now.flows.now c.control_variable.new.self.flows.now _ (rw c.in-Known.is at c.in-Ok.ensures.codes) c.control_variable.ensures.nodes in
-    let two = of_part c.control_variable.new.self.flows.now c.check_bound.new.self.flows.now _ (rw c.in-Known-asked.is at c.in-Ok-check_bound.ensures.codes) c.check_bound.ensures.nodes in
-    let three = of_part c.check_bound.new.self.flows.now c.check_bound-2.new.self.flows.now _ (rw c.in-Known-asked-2.is at c.in-Ok-check_bound-2.ensures.codes) c.check_bound-2.ensures.nodes in
-    unknown_behind (Works-trans one.works (Works-trans two.works three.works)) (Grows-trans one.grows (Grows-trans two.grows three.grows)) (of_part c.check_bound-2.new.self.flows.now c.check_bound-2.new.self.flows.now _ (rw c.in-DontKnowYet-asked-3.is at c.in-Ok-check_step.ensures c.args.stand.now c.check_bound-2.new.self.flows.now.fragments.nodes.items) refl)
+    let one = of_coding _ (rw c.in-Known.is at c.in-Ok.ensures.codes) in
+    let two = of_coding _ (rw c.in-Known-asked.is at c.in-Ok-check_bound.ensures.codes) in
+    let three = of_coding _ (rw c.in-Known-asked-2.is at c.in-Ok-check_bound-2.ensures.codes) in
+    unknown_behind (Works-trans one.works (Works-trans two.works three.works)) (Grows-trans one.grows (Grows-trans two.grows three.grows)) (of_coding _ (rw c.in-DontKnowYet-asked-3.is at c.in-Ok-check_step.ensures c.args.stand.now c.check_bound-2.new.self.fragments.now.nodes.items))
 
 pub for_statement-returns-in-Err-check_step-clause-walks : goal.for_statement-returns-in-Err-check_step-clause-walks
 for_statement-returns-in-Err-check_step-clause-walks g t c =
-    let one = of_part c.args.self.now.flows.now c.control_variable.new.self.flows.now _ (rw c.in-Known.is at c.in-Ok.ensures.codes) c.control_variable.ensures.nodes in
-    let two = of_part c.control_variable.new.self.flows.now c.check_bound.new.self.flows.now _ (rw c.in-Known-asked.is at c.in-Ok-check_bound.ensures.codes) c.check_bound.ensures.nodes in
-    let three = of_part c.check_bound.new.self.flows.now c.check_bound-2.new.self.flows.now _ (rw c.in-Known-asked-2.is at c.in-Ok-check_bound-2.ensures.codes) c.check_bound-2.ensures.nodes in
-    unmade_behind (Works-trans one.works (Works-trans two.works three.works)) (Grows-trans one.grows (Grows-trans two.grows three.grows)) (of_part c.check_bound-2.new.self.flows.now c.check_bound-2.new.self.flows.now _ (c.in-Err-check_step.ensures c.args.stand.now c.check_bound-2.new.self.flows.now.fragments.nodes.items) refl) _
+    let one = of_coding _ (rw c.in-Known.is at c.in-Ok.ensures.codes) in
+    let two = of_coding _ (rw c.in-Known-asked.is at c.in-Ok-check_bound.ensures.codes) in
+    let three = of_coding _ (rw c.in-Known-asked-2.is at c.in-Ok-check_bound-2.ensures.codes) in
+    unmade_behind (Works-trans one.works (Works-trans two.works three.works)) (Grows-trans one.grows (Grows-trans two.grows three.grows)) (of_coding _ (c.in-Err-check_step.ensures c.args.stand.now c.check_bound-2.new.self.fragments.now.nodes.items)) _
 
 pub for_statement-statements-requires : goal.for_statement-statements-requires
 for_statement-statements-requires g t c κs within =
-    let one = of_part c.args.self.now.flows.now c.control_variable.new.self.flows.now _ (rw c.in-Known.is at c.in-Ok.ensures.codes) c.control_variable.ensures.nodes in
-    let two = of_part c.control_variable.new.self.flows.now c.check_bound.new.self.flows.now _ (rw c.in-Known-asked.is at c.in-Ok-check_bound.ensures.codes) c.check_bound.ensures.nodes in
-    let three = of_part c.check_bound.new.self.flows.now c.check_bound-2.new.self.flows.now _ (rw c.in-Known-asked-2.is at c.in-Ok-check_bound-2.ensures.codes) c.check_bound-2.ensures.nodes in
-    let four = of_part c.check_bound-2.new.self.flows.now c.check_bound-2.new.self.flows.now _ (rw c.in-Known-asked-3.is at c.in-Ok-check_step.ensures c.args.stand.now c.check_bound-2.new.self.flows.now.fragments.nodes.items) refl in
+    let one = of_coding _ (rw c.in-Known.is at c.in-Ok.ensures.codes) in
+    let two = of_coding _ (rw c.in-Known-asked.is at c.in-Ok-check_bound.ensures.codes) in
+    let three = of_coding _ (rw c.in-Known-asked-2.is at c.in-Ok-check_bound-2.ensures.codes) in
+    let four = of_coding _ (rw c.in-Known-asked-3.is at c.in-Ok-check_step.ensures c.args.stand.now c.check_bound-2.new.self.fragments.now.nodes.items) in
     (omega (arith, c.decreases), (within, (stand_after four c.args.stand.now (stand_after three c.args.stand.now (stand_after two c.args.stand.now (stand_after one c.args.stand.now c.requires.stand))), (sound_after four (sound_after three (sound_after two (sound_after one c.requires.sound))), (c.requires.read)))))
 
 pub for_statement-returns-in-DontKnowYet-asked-4-clause-walks : goal.for_statement-returns-in-DontKnowYet-asked-4-clause-walks
 for_statement-returns-in-DontKnowYet-asked-4-clause-walks g t c =
-    let one = of_part c.args.self.now.flows.now c.control_variable.new.self.flows.now _ (rw c.in-Known.is at c.in-Ok.ensures.codes) c.control_variable.ensures.nodes in
-    let two = of_part c.control_variable.new.self.flows.now c.check_bound.new.self.flows.now _ (rw c.in-Known-asked.is at c.in-Ok-check_bound.ensures.codes) c.check_bound.ensures.nodes in
-    let three = of_part c.check_bound.new.self.flows.now c.check_bound-2.new.self.flows.now _ (rw c.in-Known-asked-2.is at c.in-Ok-check_bound-2.ensures.codes) c.check_bound-2.ensures.nodes in
-    let four = of_part c.check_bound-2.new.self.flows.now c.check_bound-2.new.self.flows.now _ (rw c.in-Known-asked-3.is at c.in-Ok-check_step.ensures c.args.stand.now c.check_bound-2.new.self.flows.now.fragments.nodes.items) refl in
+    let one = of_coding _ (rw c.in-Known.is at c.in-Ok.ensures.codes) in
+    let two = of_coding _ (rw c.in-Known-asked.is at c.in-Ok-check_bound.ensures.codes) in
+    let three = of_coding _ (rw c.in-Known-asked-2.is at c.in-Ok-check_bound-2.ensures.codes) in
+    let four = of_coding _ (rw c.in-Known-asked-3.is at c.in-Ok-check_step.ensures c.args.stand.now c.check_bound-2.new.self.fragments.now.nodes.items) in
     unknown_behind (Works-trans one.works (Works-trans two.works (Works-trans three.works four.works))) (Grows-trans one.grows (Grows-trans two.grows (Grows-trans three.grows four.grows))) (rw c.in-DontKnowYet-asked-4.is at c.in-Ok-statements.ensures.walks)
 
 pub for_statement-returns-in-Err-statements-clause-walks : goal.for_statement-returns-in-Err-statements-clause-walks
 for_statement-returns-in-Err-statements-clause-walks g t c =
-    let one = of_part c.args.self.now.flows.now c.control_variable.new.self.flows.now _ (rw c.in-Known.is at c.in-Ok.ensures.codes) c.control_variable.ensures.nodes in
-    let two = of_part c.control_variable.new.self.flows.now c.check_bound.new.self.flows.now _ (rw c.in-Known-asked.is at c.in-Ok-check_bound.ensures.codes) c.check_bound.ensures.nodes in
-    let three = of_part c.check_bound.new.self.flows.now c.check_bound-2.new.self.flows.now _ (rw c.in-Known-asked-2.is at c.in-Ok-check_bound-2.ensures.codes) c.check_bound-2.ensures.nodes in
-    let four = of_part c.check_bound-2.new.self.flows.now c.check_bound-2.new.self.flows.now _ (rw c.in-Known-asked-3.is at c.in-Ok-check_step.ensures c.args.stand.now c.check_bound-2.new.self.flows.now.fragments.nodes.items) refl in
+    let one = of_coding _ (rw c.in-Known.is at c.in-Ok.ensures.codes) in
+    let two = of_coding _ (rw c.in-Known-asked.is at c.in-Ok-check_bound.ensures.codes) in
+    let three = of_coding _ (rw c.in-Known-asked-2.is at c.in-Ok-check_bound-2.ensures.codes) in
+    let four = of_coding _ (rw c.in-Known-asked-3.is at c.in-Ok-check_step.ensures c.args.stand.now c.check_bound-2.new.self.fragments.now.nodes.items) in
     unmade_behind (Works-trans one.works (Works-trans two.works (Works-trans three.works four.works))) (Grows-trans one.grows (Grows-trans two.grows (Grows-trans three.grows four.grows))) c.in-Err-statements.ensures.walks _
 
 pub for_statement-emit_for-requires-clause-suits : goal.for_statement-emit_for-requires-clause-suits
 for_statement-emit_for-requires-clause-suits g t c =
-    let one = of_part c.args.self.now.flows.now c.control_variable.new.self.flows.now _ (rw c.in-Known.is at c.in-Ok.ensures.codes) c.control_variable.ensures.nodes in
-    let two = of_part c.control_variable.new.self.flows.now c.check_bound.new.self.flows.now _ (rw c.in-Known-asked.is at c.in-Ok-check_bound.ensures.codes) c.check_bound.ensures.nodes in
-    let three = of_part c.check_bound.new.self.flows.now c.check_bound-2.new.self.flows.now _ (rw c.in-Known-asked-2.is at c.in-Ok-check_bound-2.ensures.codes) c.check_bound-2.ensures.nodes in
-    let four = of_part c.check_bound-2.new.self.flows.now c.check_bound-2.new.self.flows.now _ (rw c.in-Known-asked-3.is at c.in-Ok-check_step.ensures c.args.stand.now c.check_bound-2.new.self.flows.now.fragments.nodes.items) refl in
+    let one = of_coding _ (rw c.in-Known.is at c.in-Ok.ensures.codes) in
+    let two = of_coding _ (rw c.in-Known-asked.is at c.in-Ok-check_bound.ensures.codes) in
+    let three = of_coding _ (rw c.in-Known-asked-2.is at c.in-Ok-check_bound-2.ensures.codes) in
+    let four = of_coding _ (rw c.in-Known-asked-3.is at c.in-Ok-check_step.ensures c.args.stand.now c.check_bound-2.new.self.fragments.now.nodes.items) in
     let five = rw c.in-Known-asked-4.is at c.in-Ok-statements.ensures.walks in
     suits_after five (suits_after four (suits_after three (suits_after two (suits_after one c.requires.stand.suits))))
 
 pub for_statement-emit_for-requires-clause-sound : goal.for_statement-emit_for-requires-clause-sound
 for_statement-emit_for-requires-clause-sound g t c =
-    let one = of_part c.args.self.now.flows.now c.control_variable.new.self.flows.now _ (rw c.in-Known.is at c.in-Ok.ensures.codes) c.control_variable.ensures.nodes in
-    let two = of_part c.control_variable.new.self.flows.now c.check_bound.new.self.flows.now _ (rw c.in-Known-asked.is at c.in-Ok-check_bound.ensures.codes) c.check_bound.ensures.nodes in
-    let three = of_part c.check_bound.new.self.flows.now c.check_bound-2.new.self.flows.now _ (rw c.in-Known-asked-2.is at c.in-Ok-check_bound-2.ensures.codes) c.check_bound-2.ensures.nodes in
-    let four = of_part c.check_bound-2.new.self.flows.now c.check_bound-2.new.self.flows.now _ (rw c.in-Known-asked-3.is at c.in-Ok-check_step.ensures c.args.stand.now c.check_bound-2.new.self.flows.now.fragments.nodes.items) refl in
+    let one = of_coding _ (rw c.in-Known.is at c.in-Ok.ensures.codes) in
+    let two = of_coding _ (rw c.in-Known-asked.is at c.in-Ok-check_bound.ensures.codes) in
+    let three = of_coding _ (rw c.in-Known-asked-2.is at c.in-Ok-check_bound-2.ensures.codes) in
+    let four = of_coding _ (rw c.in-Known-asked-3.is at c.in-Ok-check_step.ensures c.args.stand.now c.check_bound-2.new.self.fragments.now.nodes.items) in
     let five = rw c.in-Known-asked-4.is at c.in-Ok-statements.ensures.walks in
     sound_after five (sound_after four (sound_after three (sound_after two (sound_after one c.requires.sound))))
 
 pub for_statement-emit_for-requires-clause-variable : goal.for_statement-emit_for-requires-clause-variable
 for_statement-emit_for-requires-clause-variable g t c =
-    let one = of_part c.args.self.now.flows.now c.control_variable.new.self.flows.now _ (rw c.in-Known.is at c.in-Ok.ensures.codes) c.control_variable.ensures.nodes in
-    let two = of_part c.control_variable.new.self.flows.now c.check_bound.new.self.flows.now _ (rw c.in-Known-asked.is at c.in-Ok-check_bound.ensures.codes) c.check_bound.ensures.nodes in
-    let three = of_part c.check_bound.new.self.flows.now c.check_bound-2.new.self.flows.now _ (rw c.in-Known-asked-2.is at c.in-Ok-check_bound-2.ensures.codes) c.check_bound-2.ensures.nodes in
-    let four = of_part c.check_bound-2.new.self.flows.now c.check_bound-2.new.self.flows.now _ (rw c.in-Known-asked-3.is at c.in-Ok-check_step.ensures c.args.stand.now c.check_bound-2.new.self.flows.now.fragments.nodes.items) refl in
+    let one = of_coding _ (rw c.in-Known.is at c.in-Ok.ensures.codes) in
+    let two = of_coding _ (rw c.in-Known-asked.is at c.in-Ok-check_bound.ensures.codes) in
+    let three = of_coding _ (rw c.in-Known-asked-2.is at c.in-Ok-check_bound-2.ensures.codes) in
+    let four = of_coding _ (rw c.in-Known-asked-3.is at c.in-Ok-check_step.ensures c.args.stand.now c.check_bound-2.new.self.fragments.now.nodes.items) in
     let five = rw c.in-Known-asked-4.is at c.in-Ok-statements.ensures.walks in
     stays_coded five.works.keeps.frame five.grows c.in-Known.value (stays_coded four.works.keeps.frame four.grows c.in-Known.value (stays_coded three.works.keeps.frame three.grows c.in-Known.value (stays_coded two.works.keeps.frame two.grows c.in-Known.value (stands_after one))))
 
 pub for_statement-emit_for-requires-clause-first : goal.for_statement-emit_for-requires-clause-first
 for_statement-emit_for-requires-clause-first g t c =
-    let two = of_part c.control_variable.new.self.flows.now c.check_bound.new.self.flows.now _ (rw c.in-Known-asked.is at c.in-Ok-check_bound.ensures.codes) c.check_bound.ensures.nodes in
-    let three = of_part c.check_bound.new.self.flows.now c.check_bound-2.new.self.flows.now _ (rw c.in-Known-asked-2.is at c.in-Ok-check_bound-2.ensures.codes) c.check_bound-2.ensures.nodes in
-    let four = of_part c.check_bound-2.new.self.flows.now c.check_bound-2.new.self.flows.now _ (rw c.in-Known-asked-3.is at c.in-Ok-check_step.ensures c.args.stand.now c.check_bound-2.new.self.flows.now.fragments.nodes.items) refl in
+    let two = of_coding _ (rw c.in-Known-asked.is at c.in-Ok-check_bound.ensures.codes) in
+    let three = of_coding _ (rw c.in-Known-asked-2.is at c.in-Ok-check_bound-2.ensures.codes) in
+    let four = of_coding _ (rw c.in-Known-asked-3.is at c.in-Ok-check_step.ensures c.args.stand.now c.check_bound-2.new.self.fragments.now.nodes.items) in
     let five = rw c.in-Known-asked-4.is at c.in-Ok-statements.ensures.walks in
     stays_coded five.works.keeps.frame five.grows c.in-Known-asked.value (stays_coded four.works.keeps.frame four.grows c.in-Known-asked.value (stays_coded three.works.keeps.frame three.grows c.in-Known-asked.value (stands_after two)))
 
 pub for_statement-emit_for-requires-clause-last : goal.for_statement-emit_for-requires-clause-last
 for_statement-emit_for-requires-clause-last g t c =
-    let three = of_part c.check_bound.new.self.flows.now c.check_bound-2.new.self.flows.now _ (rw c.in-Known-asked-2.is at c.in-Ok-check_bound-2.ensures.codes) c.check_bound-2.ensures.nodes in
-    let four = of_part c.check_bound-2.new.self.flows.now c.check_bound-2.new.self.flows.now _ (rw c.in-Known-asked-3.is at c.in-Ok-check_step.ensures c.args.stand.now c.check_bound-2.new.self.flows.now.fragments.nodes.items) refl in
+    let three = of_coding _ (rw c.in-Known-asked-2.is at c.in-Ok-check_bound-2.ensures.codes) in
+    let four = of_coding _ (rw c.in-Known-asked-3.is at c.in-Ok-check_step.ensures c.args.stand.now c.check_bound-2.new.self.fragments.now.nodes.items) in
     let five = rw c.in-Known-asked-4.is at c.in-Ok-statements.ensures.walks in
     stays_coded five.works.keeps.frame five.grows c.in-Known-asked-2.value (stays_coded four.works.keeps.frame four.grows c.in-Known-asked-2.value (stands_after three))
 
@@ -577,15 +587,15 @@ for_statement-returns-clause-walks g t c =
     let last = expr_view h.last.now in
     let by = option_map expr_view h.by.now in
     let body = statements (map statement_view c.args.body.now) in
-    let one = of_part c.args.self.now.flows.now c.control_variable.new.self.flows.now _ (rw c.in-Known.is at c.in-Ok.ensures.codes) c.control_variable.ensures.nodes in
-    let two = of_part c.control_variable.new.self.flows.now c.check_bound.new.self.flows.now _ (rw c.in-Known-asked.is at c.in-Ok-check_bound.ensures.codes) c.check_bound.ensures.nodes in
-    let three = of_part c.check_bound.new.self.flows.now c.check_bound-2.new.self.flows.now _ (rw c.in-Known-asked-2.is at c.in-Ok-check_bound-2.ensures.codes) c.check_bound-2.ensures.nodes in
-    let four = of_part c.check_bound-2.new.self.flows.now c.check_bound-2.new.self.flows.now _ (rw c.in-Known-asked-3.is at c.in-Ok-check_step.ensures c.args.stand.now c.check_bound-2.new.self.flows.now.fragments.nodes.items) refl in
+    let one = of_coding _ (rw c.in-Known.is at c.in-Ok.ensures.codes) in
+    let two = of_coding _ (rw c.in-Known-asked.is at c.in-Ok-check_bound.ensures.codes) in
+    let three = of_coding _ (rw c.in-Known-asked-2.is at c.in-Ok-check_bound-2.ensures.codes) in
+    let four = of_coding _ (rw c.in-Known-asked-3.is at c.in-Ok-check_step.ensures c.args.stand.now c.check_bound-2.new.self.fragments.now.nodes.items) in
     let five = rw c.in-Known-asked-4.is at c.in-Ok-statements.ensures.walks in
-    let n1 = c.control_variable.new.self.flows.now.fragments.nodes.items in
-    let n2 = c.check_bound.new.self.flows.now.fragments.nodes.items in
-    let n3 = c.check_bound-2.new.self.flows.now.fragments.nodes.items in
-    let ms = c.statements.new.self.flows.now.fragments.nodes.items in
+    let n1 = c.control_variable.new.self.fragments.now.nodes.items in
+    let n2 = c.check_bound.new.self.fragments.now.nodes.items in
+    let n3 = c.check_bound-2.new.self.fragments.now.nodes.items in
+    let ms = c.statements.new.self.fragments.now.nodes.items in
     let v = c.in-Known.value in
     let x = coded_in n1 v in
     let low = coded_in n2 c.in-Known-asked.value in
@@ -596,7 +606,7 @@ for_statement-returns-clause-walks g t c =
     let stepped = λ (k : Context). and_then (by_of (stand_in k s) by) (λ n. gives (or_one n)) in
     let turned = λ (k : Context) (z from upto : coded.Coded) (n : ℤ). and_then (flow_of (stand_in k s) body) (λ b. gives (for_flow k z from upto n b)) in
     let r = c.emit_for.result in
-    let f = flow_in c.statements.new.self.flows.now c.in-Known-asked-4.value 0 in
+    let f = flow_in c.statements.new.self.fragments.now.nodes.items c.in-Known-asked-4.value 0 in
     let v1 = stands_after one in
     let v3 = stays_coded three.works.keeps.frame three.grows v (stays_coded two.works.keeps.frame two.grows v v1) in
     let low2 = stands_after two in
@@ -615,7 +625,7 @@ for_statement-returns-clause-walks g t c =
     (λ k. for_given (stand_in k s) c.args.name first last by body)
 
 pub in_record-returns-in_err-withs-clause-walks : goal.in_record-returns-in_err-withs-clause-walks
-in_record-returns-in_err-withs-clause-walks g t c = wanted_first (g.S.Scopes.state c.args.self.now.scopes.now) c.args.self.now.notes.now c.args.self.now.flows.now c.args.stand.now.site.now c.from_residual.result c.from_residual.ensures.0
+in_record-returns-in_err-withs-clause-walks g t c = wanted_first (g.S.Scopes.state c.args.self.now.scopes.now) c.args.self.now.notes.now c.args.self.now.fragments.now.nodes.items c.args.stand.now.site.now c.from_residual.result c.from_residual.ensures.0
 
 pub in_record-statements-requires : goal.in_record-statements-requires
 in_record-statements-requires g t c κs within =
@@ -638,7 +648,7 @@ in_record-with_made-requires-clause-body g t c = (rw c.in-Known.is at c.in-Ok.en
 
 pub in_record-returns-clause-walks : goal.in_record-returns-clause-walks
 in_record-returns-clause-walks g t c =
-    let code = coded_in c.args.self.now.flows.now.fragments.nodes.items c.args.x in
+    let code = coded_in c.args.self.now.fragments.now.nodes.items c.args.x in
     let one = described _ (rw c.in-Known.is at c.in-Ok.ensures.walks) (λ k. ap (λ (ws : List Place). flow_of (record { context = k; result = c.args.stand.now.result; withs = ws; looped = c.args.stand.now.looped }) (statements (map statement_view c.args.body.now))) (ap with_types c.deref.ensures.value ∙ (rw c.operand_type.ensures at c.in_ok-withs.ensures))) in
     by_answer c.with_made.result c.answered.result c.answered.ensures
     (described _ (made_after (λ k. flow_of (record (stand_in k c.args.stand.now) { withs = operand_type c.args.x.operand ∷ with_types c.args.stand.now.withs.now }) (statements (map statement_view c.args.body.now))) (λ b. stored_before code.code (λ n. in_with n b)) c.with_made.result one c.with_made.ensures (λ u same cell. with_same one.grows c.args.x.code c.in-Known.value c.requires.x.code u same))
@@ -653,9 +663,6 @@ with_body-returns-in-DontKnowYet-clause-walks g t c = unknown (rw c.in-DontKnowY
 pub with_body-returns-in-Err-clause-walks : goal.with_body-returns-in-Err-clause-walks
 with_body-returns-in-Err-clause-walks g t c = unmade c.in-Err.ensures.walks _
 
-pub with_body-with_cell-requires : goal.with_body-with_cell-requires
-with_body-with_cell-requires g t c = record { body = (rw c.in-Known.is at c.in-Ok.ensures.walks).there }
-
 pub with_body-in_record-requires : goal.with_body-in_record-requires
 with_body-in_record-requires g t c κs within =
     (omega (arith, c.decreases), (within, (c.requires.stand, (c.requires.sound, (c.requires.x, (sym c.is_bad.ensures ∙ c.if-is_bad.false, (c.requires.read)))))))
@@ -663,22 +670,22 @@ with_body-in_record-requires g t c κs within =
 pub with_body-returns-then-is_bad-clause-walks : goal.with_body-returns-then-is_bad-clause-walks
 with_body-returns-then-is_bad-clause-walks g t c =
     by_answer c.with_cell.result c.answered.result c.answered.ensures
-    (described _ (made_after (λ k. flow_of (stand_in k c.args.stand.now) (statements (map statement_view c.args.body.now))) (λ b. with_cell (λ n. b)) c.with_cell.result (rw c.in-Known.is at c.in-Ok.ensures.walks) c.with_cell.ensures.made (λ u same cell. ap (λ (h : ℕ → flow.Flow). with_cell h) (fun_ext same)))
-    (λ k. bad_with (stand_in k c.args.stand.now) (coded_in c.args.self.now.flows.now.fragments.nodes.items c.args.x) (statements (map statement_view c.args.body.now)) (sym c.is_bad.ensures ∙ c.if-is_bad.true)))
+    (described _ (made_after (λ k. flow_of (stand_in k c.args.stand.now) (statements (map statement_view c.args.body.now))) (λ b. with_cell (λ n. b)) c.with_cell.result (rw c.in-Known.is at c.in-Ok.ensures.walks) (c.with_cell.ensures c.statements.new.self.fragments.now.nodes.items (rw c.in-Known.is at c.in-Ok.ensures.walks).there) (λ u same cell. ap (λ (h : ℕ → flow.Flow). with_cell h) (fun_ext same)))
+    (λ k. bad_with (stand_in k c.args.stand.now) (coded_in c.args.self.now.fragments.now.nodes.items c.args.x) (statements (map statement_view c.args.body.now)) (sym c.is_bad.ensures ∙ c.if-is_bad.true)))
 
 pub with_statement-returns-in-DontKnowYet-clause-walks : goal.with_statement-returns-in-DontKnowYet-clause-walks
-with_statement-returns-in-DontKnowYet-clause-walks g t c = unknown (of_part c.args.self.now.flows.now c.record_of.new.self.flows.now _ (rw c.in-DontKnowYet.is at c.in-Ok.ensures.codes) c.record_of.ensures.nodes)
+with_statement-returns-in-DontKnowYet-clause-walks g t c = unknown (of_coding _ (rw c.in-DontKnowYet.is at c.in-Ok.ensures.codes))
 
 pub with_statement-returns-in-Err-clause-walks : goal.with_statement-returns-in-Err-clause-walks
-with_statement-returns-in-Err-clause-walks g t c = unmade (of_part c.args.self.now.flows.now c.record_of.new.self.flows.now _ c.in-Err.ensures.codes c.record_of.ensures.nodes) _
+with_statement-returns-in-Err-clause-walks g t c = unmade (of_coding _ c.in-Err.ensures.codes) _
 
 pub with_statement-with_body-requires : goal.with_statement-with_body-requires
 with_statement-with_body-requires g t c κs within =
-    (omega (arith, c.decreases), (within, (stand_after (of_part c.args.self.now.flows.now c.record_of.new.self.flows.now _ (rw c.in-Known.is at c.in-Ok.ensures.codes) c.record_of.ensures.nodes) c.args.stand.now c.requires.stand, (sound_after (of_part c.args.self.now.flows.now c.record_of.new.self.flows.now _ (rw c.in-Known.is at c.in-Ok.ensures.codes) c.record_of.ensures.nodes) c.requires.sound, (stands_after (of_part c.args.self.now.flows.now c.record_of.new.self.flows.now _ (rw c.in-Known.is at c.in-Ok.ensures.codes) c.record_of.ensures.nodes), (c.requires.read))))))
+    (omega (arith, c.decreases), (within, (stand_after (of_coding _ (rw c.in-Known.is at c.in-Ok.ensures.codes)) c.args.stand.now c.requires.stand, (sound_after (of_coding _ (rw c.in-Known.is at c.in-Ok.ensures.codes)) c.requires.sound, (stands_after (of_coding _ (rw c.in-Known.is at c.in-Ok.ensures.codes)), (c.requires.read))))))
 
 pub with_statement-returns-clause-walks : goal.with_statement-returns-clause-walks
 with_statement-returns-clause-walks g t c =
-    described _ (flowing_after (λ k. record_of (stand_in k c.args.stand.now) (designator_view c.args.of.now)) (λ x k. with_body (stand_in k c.args.stand.now) x (statements (map statement_view c.args.body.now))) c.with_body.result (of_part c.args.self.now.flows.now c.record_of.new.self.flows.now _ (rw c.in-Known.is at c.in-Ok.ensures.codes) c.record_of.ensures.nodes) c.with_body.ensures.walks)
+    described _ (flowing_after (λ k. record_of (stand_in k c.args.stand.now) (designator_view c.args.of.now)) (λ x k. with_body (stand_in k c.args.stand.now) x (statements (map statement_view c.args.body.now))) c.with_body.result (of_coding _ (rw c.in-Known.is at c.in-Ok.ensures.codes)) c.with_body.ensures.walks)
     (λ k. with_given (stand_in k c.args.stand.now) (designator_view c.args.of.now) (statements (map statement_view c.args.body.now)))
 
 pub statement-assign_statement-requires-clause-to : goal.statement-assign_statement-requires-clause-to
@@ -723,7 +730,7 @@ statement-returns-in-Loop-clause-walks g t c =
 
 pub statement-returns-in-Exit-clause-walks : goal.statement-returns-in-Exit-clause-walks
 statement-returns-in-Exit-clause-walks g t c =
-    described _ (c.exit_statement.ensures (g.S.Scopes.state c.args.self.now.scopes.now)) (λ k. statement_given (stand_in k c.args.stand.now) c.args.of.now _ (ap stmt_form_view c.in-Exit.is ∙ exit_seen))
+    described _ (c.exit_statement.ensures (g.S.Scopes.state c.args.self.now.scopes.now) c.args.self.now.fragments.now.nodes.items) (λ k. statement_given (stand_in k c.args.stand.now) c.args.of.now _ (ap stmt_form_view c.in-Exit.is ∙ exit_seen))
 
 pub statement-case_statement-requires : goal.statement-case_statement-requires
 statement-case_statement-requires g t c κs within =
@@ -774,4 +781,4 @@ statement-returns-in-Return-clause-walks g t c =
 
 pub statement-returns-in-Empty-clause-walks : goal.statement-returns-in-Empty-clause-walks
 statement-returns-in-Empty-clause-walks g t c =
-    described _ (value_alone (g.S.Scopes.state c.args.self.now.scopes.now) c.args.self.now.notes.now c.args.self.now.flows.now c.args.stand.now.site.now Nothing IsFlow flow_in (λ k. nothing) tt (λ k cell. refl)) (λ k. statement_given (stand_in k c.args.stand.now) c.args.of.now _ (ap stmt_form_view c.in-Empty.is ∙ empty_seen))
+    described _ (value_alone (g.S.Scopes.state c.args.self.now.scopes.now) c.args.self.now.notes.now c.args.self.now.fragments.now.nodes.items c.args.stand.now.site.now c.nothing.result IsFlow flow_in (λ k. nothing) (c.nothing.ensures c.args.self.now.fragments.now.nodes.items).there (λ k cell. (c.nothing.ensures c.args.self.now.fragments.now.nodes.items).flow_is cell)) (λ k. statement_given (stand_in k c.args.stand.now) c.args.of.now _ (ap stmt_form_view c.in-Empty.is ∙ empty_seen))

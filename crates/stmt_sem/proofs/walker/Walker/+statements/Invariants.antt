@@ -12,9 +12,8 @@ use Rattle.stmt_sem.specs.Statements.{arm_flow, case_flow, statement_flow}
 use Rattle.stmt_sem.specs.Walkers.{Keeps, Walks}
 use Rattle.stmt_sem.proofs.CaseLists.{AreSoFar, so_far_in}
 use Rattle.stmt_sem.proofs.Flowed.{step}
-use Rattle.stmt_sem.proofs.FlowRanks.{greater}
 use Rattle.stmt_sem.proofs.StatementFolds.{behind_arm, behind_case, behind_flow}
-use Rattle.stmt_sem.proofs.StatementReads.{rest_size}
+use Rattle.stmt_sem.proofs.StatementReads.{greater, rest_size}
 use Rattle.stmt_sem.proofs.walker.Walker.+statements.Given as goal
 
 abbrev pub decreases-statement : goal.decreases-statement

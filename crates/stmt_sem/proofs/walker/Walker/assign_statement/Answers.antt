@@ -8,37 +8,36 @@ use Rattle.expr_sem.specs.Codings.{coded_in, with_types}
 use Rattle.expr_sem.specs.Expressions.{value}
 use Rattle.expr_sem.proofs.Onwards.{coded_after}
 use Rattle.expr_sem.proofs.Operating.{coded_later}
+use Rattle.expr_sem.proofs.Sequencing.{Grows-trans}
 use Rattle.expr_sem.proofs.Walking.{stands_after}
 use Rattle.stmt_sem.specs.Assignments.{assignment}
 use Rattle.stmt_sem.specs.Flows.{straight}
 use Rattle.stmt_sem.specs.Stands.{stand_in}
 use Rattle.stmt_sem.specs.Stated.{answer_of}
 use Rattle.stmt_sem.specs.Statements.{variable}
-use Rattle.stmt_sem.proofs.Flowed.{by_answer, described, flowing_after, made_after, unknown, unknown_after, unmade, unmade_after}
+use Rattle.stmt_sem.proofs.Flowed.{by_answer, described, flowing_after, made_after, of_coding, sound_after, unknown, unknown_after, unmade, unmade_after}
 use Rattle.stmt_sem.proofs.FlowsBehind.{stand_on, unknown_behind, unmade_behind}
-use Rattle.stmt_sem.proofs.FlowsKept.{Grows-trans}
-use Rattle.stmt_sem.proofs.Walked.{of_part}
 use Rattle.m2_base.proofs.Kept.{Works-trans}
 use Rattle.stmt_sem.proofs.walker.Walker.assign_statement.Goals as goal
 
 pub returns-in-DontKnowYet-clause-walks : goal.returns-in-DontKnowYet-clause-walks
-returns-in-DontKnowYet-clause-walks g c = unknown (of_part c.args.self.now.flows.now c.variable.new.self.flows.now _ (rw c.in-DontKnowYet.is at c.in-Ok.ensures.codes) c.variable.ensures.nodes)
+returns-in-DontKnowYet-clause-walks g c = unknown (of_coding _ (rw c.in-DontKnowYet.is at c.in-Ok.ensures.codes))
 
 pub returns-in-Err-clause-walks : goal.returns-in-Err-clause-walks
-returns-in-Err-clause-walks g c = unmade (of_part c.args.self.now.flows.now c.variable.new.self.flows.now _ c.in-Err.ensures.codes c.variable.ensures.nodes) _
+returns-in-Err-clause-walks g c = unmade (of_coding _ c.in-Err.ensures.codes) _
 
 pub value_of-requires-clause-stand : goal.value_of-requires-clause-stand
 value_of-requires-clause-stand g c = stand_on (rw c.in-Known.is at c.in-Ok.ensures.codes) c.args.stand.now c.requires.stand
 
 pub returns-in-DontKnowYet-asked-clause-walks : goal.returns-in-DontKnowYet-asked-clause-walks
 returns-in-DontKnowYet-asked-clause-walks g c =
-    let one = of_part c.args.self.now.flows.now c.variable.new.self.flows.now _ (rw c.in-Known.is at c.in-Ok.ensures.codes) c.variable.ensures.nodes in
-    unknown_after one (of_part c.variable.new.self.flows.now c.value_of.new.self.flows.now _ (rw c.in-DontKnowYet-asked.is at c.in-Ok-value_of.ensures.codes) c.value_of.ensures.nodes)
+    let one = of_coding _ (rw c.in-Known.is at c.in-Ok.ensures.codes) in
+    unknown_after one (of_coding _ (rw c.in-DontKnowYet-asked.is at c.in-Ok-value_of.ensures.codes))
 
 pub returns-in-Err-value_of-clause-walks : goal.returns-in-Err-value_of-clause-walks
 returns-in-Err-value_of-clause-walks g c =
-    let one = of_part c.args.self.now.flows.now c.variable.new.self.flows.now _ (rw c.in-Known.is at c.in-Ok.ensures.codes) c.variable.ensures.nodes in
-    unmade_after one (of_part c.variable.new.self.flows.now c.value_of.new.self.flows.now _ c.in-Err-value_of.ensures.codes c.value_of.ensures.nodes) _
+    let one = of_coding _ (rw c.in-Known.is at c.in-Ok.ensures.codes) in
+    unmade_after one (of_coding _ c.in-Err-value_of.ensures.codes) _
 
 pub assignment-requires-clause-stand : goal.assignment-requires-clause-stand
 assignment-requires-clause-stand g c =
@@ -52,19 +51,25 @@ assignment-requires-clause-x g c = stands_after (rw c.in-Known-asked.is at c.in-
 
 pub returns-in-DontKnowYet-asked-2-clause-walks : goal.returns-in-DontKnowYet-asked-2-clause-walks
 returns-in-DontKnowYet-asked-2-clause-walks g c =
-    let fs1 = c.variable.new.self.flows.now in
-    let fs2 = c.value_of.new.self.flows.now in
-    let one = of_part c.args.self.now.flows.now fs1 _ (rw c.in-Known.is at c.in-Ok.ensures.codes) c.variable.ensures.nodes in
-    let two = of_part fs1 fs2 _ (rw c.in-Known-asked.is at c.in-Ok-value_of.ensures.codes) c.value_of.ensures.nodes in
-    unknown_behind (Works-trans one.works two.works) (Grows-trans one.grows two.grows) (of_part fs2 c.assignment.new.self.flows.now _ (rw c.in-DontKnowYet-asked-2.is at c.in-Ok-assignment.ensures.codes) c.assignment.ensures.nodes)
+    let one = of_coding _ (rw c.in-Known.is at c.in-Ok.ensures.codes) in
+    let two = of_coding _ (rw c.in-Known-asked.is at c.in-Ok-value_of.ensures.codes) in
+    unknown_behind (Works-trans one.works two.works) (Grows-trans one.grows two.grows) (of_coding _ (rw c.in-DontKnowYet-asked-2.is at c.in-Ok-assignment.ensures.codes))
 
 pub returns-in-Err-assignment-clause-walks : goal.returns-in-Err-assignment-clause-walks
 returns-in-Err-assignment-clause-walks g c =
-    let fs1 = c.variable.new.self.flows.now in
-    let fs2 = c.value_of.new.self.flows.now in
-    let one = of_part c.args.self.now.flows.now fs1 _ (rw c.in-Known.is at c.in-Ok.ensures.codes) c.variable.ensures.nodes in
-    let two = of_part fs1 fs2 _ (rw c.in-Known-asked.is at c.in-Ok-value_of.ensures.codes) c.value_of.ensures.nodes in
-    unmade_behind (Works-trans one.works two.works) (Grows-trans one.grows two.grows) (of_part fs2 c.assignment.new.self.flows.now _ c.in-Err-assignment.ensures.codes c.assignment.ensures.nodes) _
+    let one = of_coding _ (rw c.in-Known.is at c.in-Ok.ensures.codes) in
+    let two = of_coding _ (rw c.in-Known-asked.is at c.in-Ok-value_of.ensures.codes) in
+    unmade_behind (Works-trans one.works two.works) (Grows-trans one.grows two.grows) (of_coding _ c.in-Err-assignment.ensures.codes) _
+
+pub straight-requires-clause-sound : goal.straight-requires-clause-sound
+straight-requires-clause-sound g c =
+    let one = of_coding _ (rw c.in-Known.is at c.in-Ok.ensures.codes) in
+    let two = of_coding _ (rw c.in-Known-asked.is at c.in-Ok-value_of.ensures.codes) in
+    let three = of_coding _ (rw c.in-Known-asked-2.is at c.in-Ok-assignment.ensures.codes) in
+    sound_after three (sound_after two (sound_after one c.requires.sound))
+
+pub straight-requires-clause-there : goal.straight-requires-clause-there
+straight-requires-clause-there g c = (rw c.in-Known-asked-2.is at c.in-Ok-assignment.ensures.codes).there
 
 pub returns-clause-walks : goal.returns-clause-walks
 returns-clause-walks g c =
@@ -73,18 +78,16 @@ returns-clause-walks g c =
     let e = c.args.value.now in
     let at = expr_at (expr_view e) in
     let ws = with_types s.withs.now in
-    let fs1 = c.variable.new.self.flows.now in
-    let fs2 = c.value_of.new.self.flows.now in
-    let to = coded_in fs1.fragments.nodes.items c.in-Known.value in
-    let x = coded_in fs2.fragments.nodes.items c.in-Known-asked.value in
+    let to = coded_in c.variable.new.self.fragments.now.nodes.items c.in-Known.value in
+    let x = coded_in c.value_of.new.self.fragments.now.nodes.items c.in-Known-asked.value in
     let first = rw c.in-Known.is at c.in-Ok.ensures.codes in
     let second = rw c.in-Known-asked.is at c.in-Ok-value_of.ensures.codes in
-    let one = of_part c.args.self.now.flows.now fs1 _ first c.variable.ensures.nodes in
-    let two = of_part fs1 fs2 _ second c.value_of.ensures.nodes in
-    let three = described _ (of_part fs2 c.assignment.new.self.flows.now _ (rw c.in-Known-asked-2.is at c.in-Ok-assignment.ensures.codes) c.assignment.ensures.nodes)
+    let one = of_coding _ first in
+    let two = of_coding _ second in
+    let three = described _ (of_coding _ (rw c.in-Known-asked-2.is at c.in-Ok-assignment.ensures.codes))
     (λ k. ap (λ (u : code.Coded). assignment k u e.at x) (coded_later second.grows c.in-Known.value first.there) ∙ ap (λ (n : ℕ). assignment k to n x) (sym (at_seen e))) in
     let r = answer_of c.straight.result in
     by_answer c.straight.result c.answered.result c.answered.ensures
     (flowing_after (λ k. variable (stand_in k s) d) (λ u k. and_then (value k ws (expr_view e)) (λ v. and_then (assignment k u at v) (λ p. gives (straight p)))) r one
     (flowing_after (λ k. value k ws (expr_view e)) (λ v k. and_then (assignment k to at v) (λ p. gives (straight p))) r two
-    (made_after (λ k. assignment k to at x) (λ p. straight p) c.straight.result three c.straight.ensures.made (λ p same cell. ap straight (same cell)))))
+    (made_after (λ k. assignment k to at x) (λ p. straight p) c.straight.result three c.straight.ensures (λ p same cell. ap straight (same cell)))))

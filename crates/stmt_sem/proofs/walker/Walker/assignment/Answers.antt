@@ -21,8 +21,8 @@ use Rattle.stmt_sem.proofs.walker.Walker.assignment.Goals as goal
 
 pub returns-then-is_bad-clause-codes : goal.returns-then-is_bad-clause-codes
 returns-then-is_bad-clause-codes g c =
-    described (Ok (Known Nothing)) (value_alone _ c.args.self.now.notes.now c.args.self.now.flows.now.fragments.nodes.items c.args.stand.now.site.now Nothing IsFragment part (λ k. none) tt (λ k. refl))
-    (λ k. ap (λ (b : Bool). if b then gives none else and_then (assigned_to k (operand_type c.args.to.operand) c.args.x.at not_assignable (coded_in c.args.self.now.flows.now.fragments.nodes.items c.args.x.coded)) (λ v. gives (store_code k (coded_in c.args.self.now.flows.now.fragments.nodes.items c.args.to) v))) (sym c.if-is_bad.true ∙ c.is_bad.ensures))
+    described (Ok (Known Nothing)) (value_alone _ c.args.self.now.notes.now c.args.self.now.fragments.now.nodes.items c.args.stand.now.site.now Nothing IsFragment part (λ k. none) tt (λ k. refl))
+    (λ k. ap (λ (b : Bool). if b then gives none else and_then (assigned_to k (operand_type c.args.to.operand) c.args.x.at not_assignable (coded_in c.args.self.now.fragments.now.nodes.items c.args.x.coded)) (λ v. gives (store_code k (coded_in c.args.self.now.fragments.now.nodes.items c.args.to) v))) (sym c.if-is_bad.true ∙ c.is_bad.ensures))
 
 pub assigned_to-requires-clause-to : goal.assigned_to-requires-clause-to
 assigned_to-requires-clause-to g c =
@@ -45,11 +45,11 @@ store_code-requires-clause-x g c = stands_after (rw c.in-Known.is at c.in-Ok.ens
 
 pub returns-clause-codes : goal.returns-clause-codes
 returns-clause-codes g c =
-    let ns = c.args.self.now.flows.now.fragments.nodes.items in
+    let ns = c.args.self.now.fragments.now.nodes.items in
     let to = coded_in ns c.args.to in
     let taken = λ (k : Context). assigned_to k (operand_type c.args.to.operand) c.args.x.at not_assignable (coded_in ns c.args.x.coded) in
     let one = rw c.in-Known.is at c.in-Ok.ensures.codes in
-    let value = coded_in c.assigned_to.new.self.flows.now.fragments.nodes.items c.in-Known.value in
+    let value = coded_in c.assigned_to.new.self.fragments.now.nodes.items c.in-Known.value in
     described c.store_code.result
     (coding_after taken (λ v k. gives (store_code k to v)) c.store_code.result
     (described _ one (λ k. ap (λ (t : Place). assigned_to k t c.args.x.at not_assignable (coded_in ns c.args.x.coded)) c.operand_type-of.ensures))

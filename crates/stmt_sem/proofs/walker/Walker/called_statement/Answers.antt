@@ -4,22 +4,27 @@ use Rattle.m2_base.specs.Views.{designator_view, expr_view}
 use Rattle.stmt_sem.specs.Flows.{straight}
 use Rattle.stmt_sem.specs.StatementParts.{called}
 use Rattle.stmt_sem.specs.Stands.{stand_in}
-use Rattle.stmt_sem.proofs.Flowed.{by_answer, described, made_after, unknown, unmade}
+use Rattle.stmt_sem.proofs.Flowed.{by_answer, described, made_after, of_coding, unknown, unmade}
 use Rattle.stmt_sem.proofs.SimpleGiven.{call_given}
-use Rattle.stmt_sem.proofs.Walked.{of_part}
 use Rattle.stmt_sem.proofs.walker.Walker.called_statement.Goals as goal
 
 pub returns-in-DontKnowYet-clause-walks : goal.returns-in-DontKnowYet-clause-walks
-returns-in-DontKnowYet-clause-walks g c = unknown (of_part c.args.self.now.flows.now c.called.new.self.flows.now _ (rw c.in-DontKnowYet.is at c.in-Ok.ensures.codes) c.called.ensures.nodes)
+returns-in-DontKnowYet-clause-walks g c = unknown (of_coding _ (rw c.in-DontKnowYet.is at c.in-Ok.ensures.codes))
 
 pub returns-in-Err-clause-walks : goal.returns-in-Err-clause-walks
-returns-in-Err-clause-walks g c = unmade (of_part c.args.self.now.flows.now c.called.new.self.flows.now _ c.in-Err.ensures.codes c.called.ensures.nodes) _
+returns-in-Err-clause-walks g c = unmade (of_coding _ c.in-Err.ensures.codes) _
+
+pub straight-requires-clause-sound : goal.straight-requires-clause-sound
+straight-requires-clause-sound g c = (rw c.in-Known.is at c.in-Ok.ensures.codes).grows.sound c.requires.sound
+
+pub straight-requires-clause-there : goal.straight-requires-clause-there
+straight-requires-clause-there g c = (rw c.in-Known.is at c.in-Ok.ensures.codes).there
 
 pub returns-clause-walks : goal.returns-clause-walks
 returns-clause-walks g c =
     let s = c.args.stand.now in
     let d = designator_view c.args.to.now in
     let args = exprs (map expr_view c.args.args.now) in
-    let one = of_part c.args.self.now.flows.now c.called.new.self.flows.now _ (rw c.in-Known.is at c.in-Ok.ensures.codes) c.called.ensures.nodes in
+    let one = of_coding _ (rw c.in-Known.is at c.in-Ok.ensures.codes) in
     by_answer c.straight.result c.answered.result c.answered.ensures
-    (described _ (made_after (λ k. called (stand_in k s) d args) (λ p. straight p) c.straight.result one c.straight.ensures.made (λ p same cell. ap straight (same cell))) (λ k. call_given (stand_in k s) d args))
+    (described _ (made_after (λ k. called (stand_in k s) d args) (λ p. straight p) c.straight.result one c.straight.ensures (λ p same cell. ap straight (same cell))) (λ k. call_given (stand_in k s) d args))

@@ -30,10 +30,10 @@ returns-in-Err-clause-codes g c = unmade c.in-Err.ensures.codes _
 pub returns-then-is_bad-clause-codes : goal.returns-then-is_bad-clause-codes
 returns-then-is_bad-clause-codes g c =
     let e = expr_view c.args.e.now in
-    let x = coded_in c.args.self.now.flows.now.fragments.nodes.items c.args.x in
-    let v = coded_in c.value_of.new.self.flows.now.fragments.nodes.items c.in-Known.value in
+    let x = coded_in c.args.self.now.fragments.now.nodes.items c.args.x in
+    let v = coded_in c.value_of.new.self.fragments.now.nodes.items c.in-Known.value in
     coding_after (λ k. value k (with_types c.args.stand.now.withs.now) e) (λ o k. bound_value k x (expr_at e) o) (Ok (Known c.in_error.result)) (rw c.in-Known.is at c.in-Ok.ensures.codes)
-    (error_alone (g.S.Scopes.state c.value_of.new.self.scopes.now) c.value_of.new.self.notes.now c.value_of.new.self.flows.now.fragments.nodes.items c.args.stand.now.site.now c.in_error.result (λ k. bound_value k x (expr_at e) v) c.in_error.ensures.told c.in_error.ensures.there
+    (error_alone (g.S.Scopes.state c.value_of.new.self.scopes.now) c.value_of.new.self.notes.now c.value_of.new.self.fragments.now.nodes.items c.args.stand.now.site.now c.in_error.result (λ k. bound_value k x (expr_at e) v) c.in_error.ensures.told c.in_error.ensures.there
     (λ k. ap (λ (b : Bool). if b then gives in_error else assigned_to k (operand_type c.args.x.operand) (expr_at e) not_assignable v) (sym c.if-is_bad.true ∙ c.is_bad.ensures)))
 
 pub assigned_to-requires-clause-stand : goal.assigned_to-requires-clause-stand
@@ -52,8 +52,8 @@ returns-clause-codes g c =
     let e = c.args.e.now in
     let ws = with_types c.args.stand.now.withs.now in
     let one = (rw c.in-Known.is at c.in-Ok.ensures.codes) in
-    let x = coded_in c.args.self.now.flows.now.fragments.nodes.items c.args.x in
-    let v = coded_in c.value_of.new.self.flows.now.fragments.nodes.items c.in-Known.value in
+    let x = coded_in c.args.self.now.fragments.now.nodes.items c.args.x in
+    let v = coded_in c.value_of.new.self.fragments.now.nodes.items c.in-Known.value in
     described c.assigned_to.result (coding_after (λ k. value k ws (expr_view e)) (λ o k. bound_value k x e.at o) c.assigned_to.result one
     (described c.assigned_to.result c.assigned_to.ensures.codes
     (λ k. ap (λ (t : Place). assigned_to k t e.at not_assignable v) c.operand_type-of.ensures

@@ -29,7 +29,7 @@ returns-in-DontKnowYet-clause-codes g c =
 
 pub returns-then-is_some-clause-codes : goal.returns-then-is_some-clause-codes
 returns-then-is_some-clause-codes g c =
-    after_question c.refused.result c.field_of_withs.ensures.reads (c.refused.ensures (g.S.Scopes.state c.field_of_withs.new.scopes) c.args.self.now.flows.now.fragments.nodes.items)
+    after_question c.refused.result c.field_of_withs.ensures.reads (c.refused.ensures (g.S.Scopes.state c.field_of_withs.new.scopes) c.args.self.now.fragments.now.nodes.items)
     (λ made in_hand told. let k = context_of (g.S.Scopes.state c.args.self.now.scopes.now).frame made c.args.stand.now.site.now in
     ap (λ (b : Bool). if b then refuse k c.args.ident.at not_a_control_variable in_error else and_then (use_of k None c.args.ident.name c.args.ident.at) (controls k c.args.ident.at))
     (sym c.if-is_some.true ∙ c.is_some.ensures ∙ withs_have k.scene (with_types c.args.stand.now.withs.now) c.args.ident.name c.in-Known.value (c.in-Known.ensures.told made in_hand told)))
@@ -59,8 +59,8 @@ returns-in_default-clause-codes g c =
     let first : Analysed {T = Option (Place × Row)} (g.S.Scopes.state c.field_of_withs.new.scopes) (g.S.Scopes.state c.use_name.new.scopes) c.args.self.now.notes.now c.use_name.new.notes c.args.stand.now.site.now
     (Ok (Known c.in-Known-asked.value)) (λ f e. IfSome e (λ r. IsRowOf f r.0 r.1)) (λ k. use_of k None c.args.ident.name c.args.ident.at) =
     record { works = c.use_name.ensures.works; waits = tt; told = rw c.in-Known-asked.is at c.in-Ok.ensures.told; there = rw c.in-Known-asked.is at c.in-Ok.ensures.row } in
-    let one = of_analysed c.args.self.now.flows.now.fragments.nodes.items (Ok (Known c.in-Known-asked.value)) first in
-    let ns = c.args.self.now.flows.now.fragments.nodes.items in
+    let one = of_analysed c.args.self.now.fragments.now.nodes.items (Ok (Known c.in-Known-asked.value)) first in
+    let ns = c.args.self.now.fragments.now.nodes.items in
     let r = Ok (Known c.in_error.result) in
     after_question r c.field_of_withs.ensures.reads
     (coding_after (λ k. use_of k None c.args.ident.name c.args.ident.at) (λ e k. controls k c.args.ident.at e) r one
@@ -75,7 +75,7 @@ entry_coded-requires-clause-suits g c =
     let first : Analysed {T = Option (Place × Row)} (g.S.Scopes.state c.field_of_withs.new.scopes) (g.S.Scopes.state c.use_name.new.scopes) c.args.self.now.notes.now c.use_name.new.notes c.args.stand.now.site.now
     (Ok (Known c.in-Known-asked.value)) (λ f e. IfSome e (λ r. IsRowOf f r.0 r.1)) (λ k. use_of k None c.args.ident.name c.args.ident.at) =
     record { works = c.use_name.ensures.works; waits = tt; told = rw c.in-Known-asked.is at c.in-Ok.ensures.told; there = rw c.in-Known-asked.is at c.in-Ok.ensures.row } in
-    let one = of_analysed c.args.self.now.flows.now.fragments.nodes.items (Ok (Known c.in-Known-asked.value)) first in
+    let one = of_analysed c.args.self.now.fragments.now.nodes.items (Ok (Known c.in-Known-asked.value)) first in
     suits_after one (stays_read (λ (f : Frame). SuitsSite f c.args.stand.now.site.now) c.field_of_withs.ensures.reads c.requires.stand.suits)
 
 pub entry_coded-requires-clause-entry : goal.entry_coded-requires-clause-entry
@@ -83,7 +83,7 @@ entry_coded-requires-clause-entry g c =
     let first : Analysed {T = Option (Place × Row)} (g.S.Scopes.state c.field_of_withs.new.scopes) (g.S.Scopes.state c.use_name.new.scopes) c.args.self.now.notes.now c.use_name.new.notes c.args.stand.now.site.now
     (Ok (Known c.in-Known-asked.value)) (λ f e. IfSome e (λ r. IsRowOf f r.0 r.1)) (λ k. use_of k None c.args.ident.name c.args.ident.at) =
     record { works = c.use_name.ensures.works; waits = tt; told = rw c.in-Known-asked.is at c.in-Ok.ensures.told; there = rw c.in-Known-asked.is at c.in-Ok.ensures.row } in
-    let one = of_analysed c.args.self.now.flows.now.fragments.nodes.items (Ok (Known c.in-Known-asked.value)) first in
+    let one = of_analysed c.args.self.now.fragments.now.nodes.items (Ok (Known c.in-Known-asked.value)) first in
     let row = holds_after one (λ (f : Frame). IsRowOf f c.in-Some.entry.0 c.in-Some.entry.1) (rw c.in-Some.is at (rw c.in-Known-asked.is at c.in-Ok.ensures.row)) in
     row
 
@@ -92,7 +92,7 @@ returns-in-DontKnowYet-asked-2-clause-codes g c =
     let first : Analysed {T = Option (Place × Row)} (g.S.Scopes.state c.field_of_withs.new.scopes) (g.S.Scopes.state c.use_name.new.scopes) c.args.self.now.notes.now c.use_name.new.notes c.args.stand.now.site.now
     (Ok (Known c.in-Known-asked.value)) (λ f e. IfSome e (λ r. IsRowOf f r.0 r.1)) (λ k. use_of k None c.args.ident.name c.args.ident.at) =
     record { works = c.use_name.ensures.works; waits = tt; told = rw c.in-Known-asked.is at c.in-Ok.ensures.told; there = rw c.in-Known-asked.is at c.in-Ok.ensures.row } in
-    let one = of_analysed c.args.self.now.flows.now.fragments.nodes.items (Ok (Known c.in-Known-asked.value)) first in
+    let one = of_analysed c.args.self.now.fragments.now.nodes.items (Ok (Known c.in-Known-asked.value)) first in
     let r = Ok (DontKnowYet c.in-DontKnowYet-asked-2.head) in
     after_question {g = λ k. and_then (use_of k None c.args.ident.name c.args.ident.at) (controls k c.args.ident.at)} r c.field_of_withs.ensures.reads (unknown_after one (rw c.in-DontKnowYet-asked-2.is at c.in-Ok-entry_coded.ensures c.use_name.new.notes))
     (λ made in_hand told. let k = context_of (g.S.Scopes.state c.args.self.now.scopes.now).frame made c.args.stand.now.site.now in
@@ -104,7 +104,7 @@ returns-in-Err-entry_coded-clause-codes g c =
     let first : Analysed {T = Option (Place × Row)} (g.S.Scopes.state c.field_of_withs.new.scopes) (g.S.Scopes.state c.use_name.new.scopes) c.args.self.now.notes.now c.use_name.new.notes c.args.stand.now.site.now
     (Ok (Known c.in-Known-asked.value)) (λ f e. IfSome e (λ r. IsRowOf f r.0 r.1)) (λ k. use_of k None c.args.ident.name c.args.ident.at) =
     record { works = c.use_name.ensures.works; waits = tt; told = rw c.in-Known-asked.is at c.in-Ok.ensures.told; there = rw c.in-Known-asked.is at c.in-Ok.ensures.row } in
-    let one = of_analysed c.args.self.now.flows.now.fragments.nodes.items (Ok (Known c.in-Known-asked.value)) first in
+    let one = of_analysed c.args.self.now.fragments.now.nodes.items (Ok (Known c.in-Known-asked.value)) first in
     let r = Err c.in-Err-entry_coded.memory in
     after_question {g = λ k. and_then (use_of k None c.args.ident.name c.args.ident.at) (controls k c.args.ident.at)} r c.field_of_withs.ensures.reads (unmade_after one (c.in-Err-entry_coded.ensures c.use_name.new.notes) _)
     (λ made in_hand told. let k = context_of (g.S.Scopes.state c.args.self.now.scopes.now).frame made c.args.stand.now.site.now in
@@ -116,7 +116,7 @@ check_control-requires-clause-suits g c =
     let first : Analysed {T = Option (Place × Row)} (g.S.Scopes.state c.field_of_withs.new.scopes) (g.S.Scopes.state c.use_name.new.scopes) c.args.self.now.notes.now c.use_name.new.notes c.args.stand.now.site.now
     (Ok (Known c.in-Known-asked.value)) (λ f e. IfSome e (λ r. IsRowOf f r.0 r.1)) (λ k. use_of k None c.args.ident.name c.args.ident.at) =
     record { works = c.use_name.ensures.works; waits = tt; told = rw c.in-Known-asked.is at c.in-Ok.ensures.told; there = rw c.in-Known-asked.is at c.in-Ok.ensures.row } in
-    let one = of_analysed c.args.self.now.flows.now.fragments.nodes.items (Ok (Known c.in-Known-asked.value)) first in
+    let one = of_analysed c.args.self.now.fragments.now.nodes.items (Ok (Known c.in-Known-asked.value)) first in
     let two = rw c.in-Known-asked-2.is at c.in-Ok-entry_coded.ensures c.use_name.new.notes in
     suits_after two (suits_after one (stays_read (λ (f : Frame). SuitsSite f c.args.stand.now.site.now) c.field_of_withs.ensures.reads c.requires.stand.suits))
 
@@ -125,7 +125,7 @@ check_control-requires-clause-entry g c =
     let first : Analysed {T = Option (Place × Row)} (g.S.Scopes.state c.field_of_withs.new.scopes) (g.S.Scopes.state c.use_name.new.scopes) c.args.self.now.notes.now c.use_name.new.notes c.args.stand.now.site.now
     (Ok (Known c.in-Known-asked.value)) (λ f e. IfSome e (λ r. IsRowOf f r.0 r.1)) (λ k. use_of k None c.args.ident.name c.args.ident.at) =
     record { works = c.use_name.ensures.works; waits = tt; told = rw c.in-Known-asked.is at c.in-Ok.ensures.told; there = rw c.in-Known-asked.is at c.in-Ok.ensures.row } in
-    let one = of_analysed c.args.self.now.flows.now.fragments.nodes.items (Ok (Known c.in-Known-asked.value)) first in
+    let one = of_analysed c.args.self.now.fragments.now.nodes.items (Ok (Known c.in-Known-asked.value)) first in
     let row = holds_after one (λ (f : Frame). IsRowOf f c.in-Some.entry.0 c.in-Some.entry.1) (rw c.in-Some.is at (rw c.in-Known-asked.is at c.in-Ok.ensures.row)) in
     let two = rw c.in-Known-asked-2.is at c.in-Ok-entry_coded.ensures c.use_name.new.notes in
     holds_after two (λ (f : Frame). IsRowOf f c.in-Some.entry.0 c.in-Some.entry.1) row
@@ -135,7 +135,7 @@ returns-clause-codes g c =
     let first : Analysed {T = Option (Place × Row)} (g.S.Scopes.state c.field_of_withs.new.scopes) (g.S.Scopes.state c.use_name.new.scopes) c.args.self.now.notes.now c.use_name.new.notes c.args.stand.now.site.now
     (Ok (Known c.in-Known-asked.value)) (λ f e. IfSome e (λ r. IsRowOf f r.0 r.1)) (λ k. use_of k None c.args.ident.name c.args.ident.at) =
     record { works = c.use_name.ensures.works; waits = tt; told = rw c.in-Known-asked.is at c.in-Ok.ensures.told; there = rw c.in-Known-asked.is at c.in-Ok.ensures.row } in
-    let one = of_analysed c.args.self.now.flows.now.fragments.nodes.items (Ok (Known c.in-Known-asked.value)) first in
+    let one = of_analysed c.args.self.now.fragments.now.nodes.items (Ok (Known c.in-Known-asked.value)) first in
     let two = rw c.in-Known-asked-2.is at c.in-Ok-entry_coded.ensures c.use_name.new.notes in
     let ms = c.entry_coded.new.fragments.nodes.items in
     let at = c.args.ident.at in

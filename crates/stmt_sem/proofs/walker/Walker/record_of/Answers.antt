@@ -28,5 +28,5 @@ returns-clause-codes g c =
     let s = c.args.stand.now in
     let one = (rw c.in-Known.is at c.in-Ok.ensures.codes) in
     described c.record_variable.result (coding_after (λ k. variable (stand_in k s) (designator_view d)) (λ x k. record_variable k d.first.at x) c.record_variable.result one
-    (c.record_variable.ensures c.variable.new.self.flows.now.fragments.nodes.items (stands_after one)))
+    (c.record_variable.ensures c.variable.new.self.fragments.now.nodes.items (stands_after one)))
     (λ k. ap (λ (at : ℕ). and_then (variable (stand_in k s) (designator_view d)) (λ x. record_variable k at x)) (sym (designator_at_seen d)))

@@ -27,5 +27,5 @@ returned-requires-clause-x g c = stands_after (rw c.in-Known.is at c.in-Ok.ensur
 
 pub returns-clause-codes : goal.returns-clause-codes
 returns-clause-codes g c =
-    coding_after (λ k. assigned_to k c.args.of c.args.x.at not_assignable (coded_in c.args.self.now.flows.now.fragments.nodes.items c.args.x.coded)) (λ v k. gives (returned k c.args.of v)) c.returned.result
+    coding_after (λ k. assigned_to k c.args.of c.args.x.at not_assignable (coded_in c.args.self.now.fragments.now.nodes.items c.args.x.coded)) (λ v k. gives (returned k c.args.of v)) c.returned.result
     (rw c.in-Known.is at c.in-Ok.ensures.codes) (c.returned.ensures c.assigned_to.new.self.notes.now)

@@ -9,9 +9,9 @@ return_of_type-requires-clause-of g c = rw c.in-Some.is at c.requires.stand.resu
 
 pub returns-in-None-clause-codes : goal.returns-in-None-clause-codes
 returns-in-None-clause-codes g c =
-    described c.refused_code.result (c.refused_code.ensures (g.S.Scopes.state c.args.self.now.scopes.now) c.args.self.now.flows.now.fragments.nodes.items)
-    (λ k. ap (λ o. return_value k c.args.at o c.args.x.at (coded_in c.args.self.now.flows.now.fragments.nodes.items c.args.x.coded)) (sym c.in-None.is))
+    described c.refused_code.result (c.refused_code.ensures (g.S.Scopes.state c.args.self.now.scopes.now) c.args.self.now.fragments.now.nodes.items)
+    (λ k. ap (λ o. return_value k c.args.at o c.args.x.at (coded_in c.args.self.now.fragments.now.nodes.items c.args.x.coded)) (sym c.in-None.is))
 
 pub returns-in-Some-clause-codes : goal.returns-in-Some-clause-codes
 returns-in-Some-clause-codes g c =
-    described c.return_of_type.result c.return_of_type.ensures.codes (λ k. ap (λ o. return_value k c.args.at o c.args.x.at (coded_in c.args.self.now.flows.now.fragments.nodes.items c.args.x.coded)) (sym c.in-Some.is))
+    described c.return_of_type.result c.return_of_type.ensures.codes (λ k. ap (λ o. return_value k c.args.at o c.args.x.at (coded_in c.args.self.now.fragments.now.nodes.items c.args.x.coded)) (sym c.in-Some.is))

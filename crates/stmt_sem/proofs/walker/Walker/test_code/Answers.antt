@@ -13,9 +13,9 @@ use Rattle.stmt_sem.proofs.walker.Walker.test_code.Goals as goal
 pub returns-then-is_bad-clause-codes : goal.returns-then-is_bad-clause-codes
 returns-then-is_bad-clause-codes g c =
     described c.answered.result (made_alone c.args.self.now.notes.now c.false_code.result c.answered.result (λ k. false_code) c.answered.ensures c.false_code.ensures (λ made. refl))
-    (λ k. ap (λ (b : Bool). if b then gives false_code else if is_boolean k c.args.x.coded.operand then gives (value_code k (coded_in c.args.self.now.flows.now.fragments.nodes.items c.args.x.coded)) else refuse k c.args.x.at not_boolean false_code) (sym c.if-is_bad.true ∙ c.is_bad.ensures))
+    (λ k. ap (λ (b : Bool). if b then gives false_code else if is_boolean k c.args.x.coded.operand then gives (value_code k (coded_in c.args.self.now.fragments.now.nodes.items c.args.x.coded)) else refuse k c.args.x.at not_boolean false_code) (sym c.if-is_bad.true ∙ c.is_bad.ensures))
 
 pub returns-clause-codes : goal.returns-clause-codes
 returns-clause-codes g c =
     described c.test_wanted.result c.test_wanted.ensures.codes
-    (λ k. ap (λ (b : Bool). if b then gives false_code else if is_boolean k c.args.x.coded.operand then gives (value_code k (coded_in c.args.self.now.flows.now.fragments.nodes.items c.args.x.coded)) else refuse k c.args.x.at not_boolean false_code) (sym c.if-is_bad.false ∙ c.is_bad.ensures))
+    (λ k. ap (λ (b : Bool). if b then gives false_code else if is_boolean k c.args.x.coded.operand then gives (value_code k (coded_in c.args.self.now.fragments.now.nodes.items c.args.x.coded)) else refuse k c.args.x.at not_boolean false_code) (sym c.if-is_bad.false ∙ c.is_bad.ensures))

@@ -15,16 +15,16 @@ pub returns-in-DontKnowYet-clause-codes : goal.returns-in-DontKnowYet-clause-cod
 returns-in-DontKnowYet-clause-codes g c = question_waits _ _ c.is_boolean.ensures.reads c.in-DontKnowYet.ensures.waits
 
 pub value_code-requires-clause-x : goal.value_code-requires-clause-x
-value_code-requires-clause-x g c = stays_read (λ (f : Frame). IsCoded f c.args.self.now.flows.now.fragments.nodes.items c.args.x.coded) c.in-Known.ensures.reads c.requires.x
+value_code-requires-clause-x g c = stays_read (λ (f : Frame). IsCoded f c.args.self.now.fragments.now.nodes.items c.args.x.coded) c.in-Known.ensures.reads c.requires.x
 
 pub returns-then-boolean-clause-codes : goal.returns-then-boolean-clause-codes
 returns-then-boolean-clause-codes g c =
     after_question c.value_code.result c.in-Known.ensures.reads (c.value_code.ensures c.args.self.now.notes.now)
     (λ made in_hand told. let k = context_of (g.S.Scopes.state c.args.self.now.scopes.now).frame made c.args.stand.now.site.now in
-    ap (λ (b : Bool). if b then gives (value_code k (coded_in c.args.self.now.flows.now.fragments.nodes.items c.args.x.coded)) else refuse k c.args.x.at not_boolean false_code) (sym c.if-boolean.true ∙ c.in-Known.ensures.told made in_hand told))
+    ap (λ (b : Bool). if b then gives (value_code k (coded_in c.args.self.now.fragments.now.nodes.items c.args.x.coded)) else refuse k c.args.x.at not_boolean false_code) (sym c.if-boolean.true ∙ c.in-Known.ensures.told made in_hand told))
 
 pub returns-clause-codes : goal.returns-clause-codes
 returns-clause-codes g c =
     after_question c.refused_test.result c.in-Known.ensures.reads (c.refused_test.ensures (g.S.Scopes.state c.is_boolean.new.scopes))
     (λ made in_hand told. let k = context_of (g.S.Scopes.state c.args.self.now.scopes.now).frame made c.args.stand.now.site.now in
-    ap (λ (b : Bool). if b then gives (value_code k (coded_in c.args.self.now.flows.now.fragments.nodes.items c.args.x.coded)) else refuse k c.args.x.at not_boolean false_code) (sym c.if-boolean.false ∙ c.in-Known.ensures.told made in_hand told))
+    ap (λ (b : Bool). if b then gives (value_code k (coded_in c.args.self.now.fragments.now.nodes.items c.args.x.coded)) else refuse k c.args.x.at not_boolean false_code) (sym c.if-boolean.false ∙ c.in-Known.ensures.told made in_hand told))

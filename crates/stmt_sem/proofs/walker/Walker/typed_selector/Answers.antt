@@ -12,26 +12,26 @@ use Rattle.stmt_sem.specs.Taken.{IsSelector, selector_in}
 use Rattle.stmt_sem.proofs.walker.Walker.typed_selector.Goals as goal
 
 pub returns-in-DontKnowYet-clause-codes : goal.returns-in-DontKnowYet-clause-codes
-returns-in-DontKnowYet-clause-codes g c = unknown (rw c.in-DontKnowYet.is at c.in-Ok.ensures c.args.self.now.flows.now.fragments.nodes.items)
+returns-in-DontKnowYet-clause-codes g c = unknown (rw c.in-DontKnowYet.is at c.in-Ok.ensures c.args.self.now.fragments.now.nodes.items)
 
 pub returns-in-Err-clause-codes : goal.returns-in-Err-clause-codes
-returns-in-Err-clause-codes g c = unmade (c.in-Err.ensures c.args.self.now.flows.now.fragments.nodes.items) _
+returns-in-Err-clause-codes g c = unmade (c.in-Err.ensures c.args.self.now.fragments.now.nodes.items) _
 
 pub selector_value-requires-clause-suits : goal.selector_value-requires-clause-suits
-selector_value-requires-clause-suits g c = suits_after (rw c.in-Known.is at c.in-Ok.ensures c.args.self.now.flows.now.fragments.nodes.items) c.requires.stand.suits
+selector_value-requires-clause-suits g c = suits_after (rw c.in-Known.is at c.in-Ok.ensures c.args.self.now.fragments.now.nodes.items) c.requires.stand.suits
 
 pub selector_value-requires-clause-x : goal.selector_value-requires-clause-x
-selector_value-requires-clause-x g c = coded_after (rw c.in-Known.is at c.in-Ok.ensures c.args.self.now.flows.now.fragments.nodes.items) c.args.x.coded c.requires.x
+selector_value-requires-clause-x g c = coded_after (rw c.in-Known.is at c.in-Ok.ensures c.args.self.now.fragments.now.nodes.items) c.args.x.coded c.requires.x
 
 pub returns-in-DontKnowYet-asked-clause-codes : goal.returns-in-DontKnowYet-asked-clause-codes
-returns-in-DontKnowYet-asked-clause-codes g c = unknown_after (c.in-Ok.ensures c.args.self.now.flows.now.fragments.nodes.items) (rw c.in-DontKnowYet-asked.is at c.in-Ok-selector_value.ensures c.selector_type.new.notes)
+returns-in-DontKnowYet-asked-clause-codes g c = unknown_after (c.in-Ok.ensures c.args.self.now.fragments.now.nodes.items) (rw c.in-DontKnowYet-asked.is at c.in-Ok-selector_value.ensures c.selector_type.new.notes)
 
 pub returns-in-Err-selector_value-clause-codes : goal.returns-in-Err-selector_value-clause-codes
-returns-in-Err-selector_value-clause-codes g c = unmade_after (c.in-Ok.ensures c.args.self.now.flows.now.fragments.nodes.items) (c.in-Err-selector_value.ensures c.selector_type.new.notes) _
+returns-in-Err-selector_value-clause-codes g c = unmade_after (c.in-Ok.ensures c.args.self.now.fragments.now.nodes.items) (c.in-Err-selector_value.ensures c.selector_type.new.notes) _
 
 pub returns-clause-codes : goal.returns-clause-codes
 returns-clause-codes g c =
-    let ns = c.args.self.now.flows.now.fragments.nodes.items in
+    let ns = c.args.self.now.fragments.now.nodes.items in
     let x = coded_in ns c.args.x.coded in
     let one = rw c.in-Known.is at c.in-Ok.ensures ns in
     let two = rw c.in-Known-asked.is at c.in-Ok-selector_value.ensures c.selector_type.new.notes in

@@ -21,5 +21,5 @@ returns-clause-codes g c =
     let ws = with_types c.args.stand.now.withs.now in
     let one = (rw c.in-Known.is at c.in-Ok.ensures.codes) in
     described c.as_variable.result (coding_after (λ k. designated k ws (designator_view d)) (λ x k. as_variable k d.first.at x) c.as_variable.result one
-    (c.as_variable.ensures (g.S.Scopes.state c.designated.new.self.scopes.now) c.designated.new.self.flows.now.fragments.nodes.items (stands_after one)))
+    (c.as_variable.ensures (g.S.Scopes.state c.designated.new.self.scopes.now) c.designated.new.self.fragments.now.nodes.items (stands_after one)))
     (λ k. ap (λ (at : ℕ). and_then (designated k ws (designator_view d)) (λ x. as_variable k at x)) (sym (designator_at_seen d)))

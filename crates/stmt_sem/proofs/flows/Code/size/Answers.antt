@@ -7,29 +7,29 @@ use Rattle.expr_sem.specs.Fragments.{part}
 use Rattle.expr_sem.specs.Parts.{plain, plain_step, ◌⨟◌}
 use Rattle.stmt_sem.specs.Cases.{labels_code}
 use Rattle.case_labels.specs.Seen.{test_seen}
-use Rattle.stmt_sem.specs.FlowNodes.{MeasuresPart, code_by}
+use Rattle.stmt_sem.specs.FlowTrees.{MeasuresPart, code_by}
 use Rattle.stmt_sem.specs.declared.flows.Code.{Code}
 use Rattle.case_labels.specs.declared.tests.LabelTest.{LabelTest}
 use Rattle.stmt_sem.proofs.FlowsSized.{compared_sized, if_ok, stored_sized}
-use Rattle.stmt_sem.proofs.flows.Flows.code_size.Goals as goal
+use Rattle.stmt_sem.proofs.flows.Code.size.Goals as goal
 
 pub returns-in-Fixed : goal.returns-in-Fixed
-returns-in-Fixed c sound =
-    let ns = c.args.self.now.fragments.nodes.items in
-    subst (λ (d : Code). MeasuresPart (code_by ns d) c.size.result) (sym c.in-Fixed.is) (λ t at. c.size.ensures sound.fragments at)
+returns-in-Fixed c =
+    let ns = c.args.fragments.now.nodes.items in
+    subst (λ (d : Code). MeasuresPart (code_by ns d) c.size.result) (sym c.in-Fixed.is) (λ t at. c.size.ensures c.requires.sound at)
 
 pub returns-in-Stored : goal.returns-in-Stored
-returns-in-Stored c sound =
-    let ns = c.args.self.now.fragments.nodes.items in
+returns-in-Stored c =
+    let ns = c.args.fragments.now.nodes.items in
     let f = c.in-Stored.fragment in
     let n = c.size-in-Stored.result in
     subst (λ (d : Code). IfOk c.sum.result (λ k. MeasuresPart (code_by ns d) k)) (sym c.in-Stored.is)
     (if_ok (λ k. k ≡ n + 10) (λ k. MeasuresPart (λ t. plain (Local 0 t ∷ []) ⨟ part ns f ⨟ plain (Store ∷ [])) k) c.sum.result c.sum.ensures
-    (λ k e. subst (λ (j : ℕ). MeasuresPart (λ t. plain (Local 0 t ∷ []) ⨟ part ns f ⨟ plain (Store ∷ [])) j) (sym e) (stored_sized ns f n (c.size-in-Stored.ensures sound.fragments))))
+    (λ k e. subst (λ (j : ℕ). MeasuresPart (λ t. plain (Local 0 t ∷ []) ⨟ part ns f ⨟ plain (Store ∷ [])) j) (sym e) (stored_sized ns f n (c.size-in-Stored.ensures c.requires.sound))))
 
 pub returns-in_ok-compared-in-Compared : goal.returns-in_ok-compared-in-Compared
-returns-in_ok-compared-in-Compared c sound =
-    let ns = c.args.self.now.fragments.nodes.items in
+returns-in_ok-compared-in-Compared c =
+    let ns = c.args.fragments.now.nodes.items in
     let f = c.in-Compared.fragment in
     let i = c.in-Compared.instr in
     let n = c.size-in-Compared.result in
@@ -38,10 +38,10 @@ returns-in_ok-compared-in-Compared c sound =
     let is_size : m ≡ size (plain_step i).instr = c.size-in-Compared-2.ensures ∙ ap (λ (s : Step). size s.instr) c.plain.ensures in
     subst (λ (d : Code). IfOk c.sum-in-Compared-2.result (λ k. MeasuresPart (code_by ns d) k)) (sym c.in-Compared.is)
     (if_ok (λ k. k ≡ c.in_ok-compared-in-Compared.compared + m) (λ k. MeasuresPart (λ t. part ns f ⨟ plain (Load ∷ Local 0 t ∷ Load ∷ i ∷ [])) k) c.sum-in-Compared-2.result c.sum-in-Compared-2.ensures
-    (λ k e. subst (λ (j : ℕ). MeasuresPart (λ t. part ns f ⨟ plain (Load ∷ Local 0 t ∷ Load ∷ i ∷ [])) j) (omega (arith, e, before)) (compared_sized ns f i n m (c.size-in-Compared.ensures sound.fragments) is_size)))
+    (λ k e. subst (λ (j : ℕ). MeasuresPart (λ t. part ns f ⨟ plain (Load ∷ Local 0 t ∷ Load ∷ i ∷ [])) j) (omega (arith, e, before)) (compared_sized ns f i n m (c.size-in-Compared.ensures c.requires.sound) is_size)))
 
 pub returns-in-Labels : goal.returns-in-Labels
-returns-in-Labels c sound =
-    let ns = c.args.self.now.fragments.nodes.items in
+returns-in-Labels c =
+    let ns = c.args.fragments.now.nodes.items in
     subst (λ (d : Code). IfOk c.labels_size.result (λ k. MeasuresPart (code_by ns d) k)) (sym c.in-Labels.is)
     (subst (λ (ls : List LabelTest). IfOk c.labels_size.result (λ k. MeasuresPart (λ t. labels_code t (map test_seen ls)) k)) c.deref.ensures.value c.labels_size.ensures)

@@ -1,0 +1,5 @@
+use Rattle.std.proofs.Common.{refl}
+use Rattle.stmt_sem.proofs.flows.Flow.nothing.Goals as goal
+
+pub returns : goal.returns
+returns c ns = record { there = (tt, λ t at out. refl); flow_is = λ t. refl }

@@ -1,8 +1,0 @@
-use Rattle.std.proofs.Common.{◌≡◌, ◌+◌, drop}
-use Rattle.stmt_sem.specs.FlowNodes.{AreSound}
-use Rattle.stmt_sem.specs.FlowSizes.{arms_bytes}
-use Rattle.stmt_sem.proofs.flows.Flows.arms_size.Given as goal
-
--- the bytes so far and those that are left are all
-abbrev pub invariant-loop-arm : goal.invariant-loop-arm
-invariant-loop-arm l = AreSound l.self → l.total + arms_bytes l.self (drop l.arm-index l.arms) ≡ arms_bytes l.self l.arms
