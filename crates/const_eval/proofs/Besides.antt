@@ -1,13 +1,13 @@
 -- Two operands beside each other.
 use Rattle.std.proofs.Common.{◌≡◌, ◌∙◌, ℕ, Bool, true, false, [], ◌∷◌, Some, None, refl, sym, ap, if◌then◌else◌}
-use Rattle.std.specs.Prelude.{◌&&◌, not}
+use Rattle.std.specs.Prelude.{◌&&◌}
 use Rattle.m2_base.specs.Gives.{Gives, gives}
 use Rattle.m2_base.specs.Rows.{is_same_place}
 use Rattle.m2_base.specs.Standard.{character, whole}
 use Rattle.m2_base.specs.Statics.Compatible.{is_beside_char, is_integer_or_cardinal, taken_beside}
 use Rattle.m2_base.specs.Statics.Contexts.{Context, Scene, Source, diag, refuse}
 use Rattle.m2_base.specs.Statics.Diagnostics.{out_of_range}
-use Rattle.m2_base.specs.Statics.Operands.{as_char, is_one_char, is_string, operand_type}
+use Rattle.m2_base.specs.Statics.Operands.{as_char}
 use Rattle.m2_base.specs.Statics.Operations.{as_number, base_type}
 use Rattle.m2_base.specs.Statics.Ranges.{is_within}
 use Rattle.m2_base.specs.Statics.Types.{base_of, range_of}
@@ -16,23 +16,6 @@ use Rattle.m2_base.specs.declared.operands.Operand.TheVariants.{Constant, InErro
 use Rattle.m2_base.specs.declared.notes.Diag.{Diag}
 use Rattle.m2_base.specs.declared.rows.Place.{Place}
 use Rattle.const_eval.specs.Numbers.{takes_base}
-
-both : (a b r : Bool) → (a && b) ≡ true → r ≡ (a && b && r)
-both true true r h = refl
-both true false r h = absurd (cc)
-both false b r h = absurd (cc)
-
-neither : (a b r : Bool) → (a && b) ≡ false → false ≡ (a && b && r)
-neither true true r h = absurd (cc)
-neither true false r h = refl
-neither false b r h = refl
-
--- a string of one character, beside what is none and has this base
-pub beside_char : (scene : Scene) (x y : Operand) (t : Place) → t ≡ base_of scene (operand_type y) → (is_one_char x && not (is_string y)) ≡ true → is_same_place t character ≡ is_beside_char scene x y
-beside_char scene x y t e h = ap (λ u. is_same_place u character) e ∙ both (is_one_char x) (not (is_string y)) (is_same_place (base_of scene (operand_type y)) character) h
-
-pub beside_none : (scene : Scene) (x y : Operand) → (is_one_char x && not (is_string y)) ≡ false → false ≡ is_beside_char scene x y
-beside_none scene x y h = neither (is_one_char x) (not (is_string y)) (is_same_place (base_of scene (operand_type y)) character) h
 
 -- an operand as it is taken, by the test
 pub taken_by : (source : Source) (scene : Scene) (x y : Operand) (b : Bool) → b ≡ is_beside_char scene x y → (if b then as_char source x else x) ≡ taken_beside source scene x y

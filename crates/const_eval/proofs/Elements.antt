@@ -14,6 +14,11 @@ use Rattle.m2_base.specs.declared.rows.RowMeaning.TheVariants.{Set}
 use Rattle.const_eval.specs.Structures.{set_row_by}
 use Rattle.const_eval.proofs.Refusals.{none_of, some_of}
 
+-- what isn't anything
+pub none_is : {T : Type 0} (o : Option T) → ((x : T) → o ≡ Some x → ⊥) → o ≡ None
+none_is None none = refl
+none_is (Some x) none = absurd (none x refl)
+
 module _ (c : Context) (x : Operand) (base : Place) where
   abbrev pub element : Operand
   element = taken_beside c.source c.scene x (Computed base)

@@ -3,7 +3,6 @@ use Rattle.std.proofs.Common.{◌≡◌, ◌∙◌, Result, ap, subst}
 use Rattle.m2_base.specs.Finished.{IsFinished}
 use Rattle.m2_base.specs.Gives.{Gives, and_then, gives}
 use Rattle.m2_base.specs.States.{Frame}
-use Rattle.m2_base.specs.Statics.Contexts.{Context}
 use Rattle.m2_base.specs.declared.operands.Operand.{Operand}
 use Rattle.m2_base.specs.declared.replies.Ask.{Ask}
 use Rattle.m2_base.specs.declared.replies.Ask.TheVariants.{Known, DontKnowYet}
@@ -31,30 +30,7 @@ judged_as answer f mid s given made value same asked is in_hand told =
 pub after_ok : (first : Gives Operand) (v : Operand) (k : Operand → Gives Operand) → gives v ≡ first → k v ≡ and_then first k
 after_ok first v k e = ap (λ (g : Gives Operand). and_then g k) e
 
--- the same, under two conditions
-pub judged_under : (answer : Ask (Result Operand Fault)) (f mid : Frame) (s : Site) (given : Frame → Hand → Gives Operand) (made : Hand) (value : Gives Operand) (A B : Type 0) → mid ≡ f
-    → WhereTold mid (λ rows. WhereKnown answer (λ j. judged (context_of mid rows s) j ≡ given mid rows)) → (A → B → given f made ≡ value)
-    → AreInHand f made → IsFinished f.setting.texts made.finished → WhereKnown answer (λ j. A → B → judged (context_of f made s) j ≡ value)
-judged_under (Known j) f mid s given made value A B same asked is in_hand told =
-    λ a b. told_later f mid (λ h rows. judged (context_of h rows s) j ≡ given h rows) same asked made in_hand told ∙ is a b
-judged_under (DontKnowYet head) f mid s given made value A B same asked is in_hand told = tt
-
--- what is judged under two conditions is what is wanted under them
-pub judged_both : (answer : Ask (Result Operand Fault)) (c : Context) (A B : Type 0) (given value : Gives Operand) → WhereKnown answer (λ j. A → B → judged c j ≡ given) → (A → B → given ≡ value)
-    → WhereKnown answer (λ j. A → B → judged c j ≡ value)
-judged_both (Known j) c A B given value asked is = λ a b. asked a b ∙ is a b
-judged_both (DontKnowYet head) c A B given value asked is = tt
-
--- the same, of a later judgement whose two conditions follow from two others
-pub judged_on : (answer : Ask (Result Operand Fault)) (f mid : Frame) (s : Site) (A B : Frame → Hand → Type 0) (given : Frame → Hand → Gives Operand) (made : Hand) (value : Gives Operand) (C D : Type 0) → mid ≡ f
-    → WhereTold mid (λ rows. WhereKnown answer (λ j. A mid rows → B mid rows → judged (context_of mid rows s) j ≡ given mid rows))
-    → (C → D → A f made) → (C → D → B f made) → (C → D → given f made ≡ value)
-    → AreInHand f made → IsFinished f.setting.texts made.finished → WhereKnown answer (λ j. C → D → judged (context_of f made s) j ≡ value)
-judged_on (Known j) f mid s A B given made value C D same asked a b is in_hand told =
-    λ c d. told_later f mid (λ h rows. A h rows → B h rows → judged (context_of h rows s) j ≡ given h rows) same asked made in_hand told (a c d) (b c d) ∙ is c d
-judged_on (DontKnowYet head) f mid s A B given made value C D same asked a b is in_hand told = tt
-
--- the same, of an answer under two conditions that are met
+-- the answer of a later judgement under two conditions that are met
 pub judged_met : (answer : Ask (Result Operand Fault)) (f mid : Frame) (s : Site) (A B : Frame → Hand → Type 0) (given : Frame → Hand → Gives Operand) (made : Hand) (value : Gives Operand) → mid ≡ f
     → WhereTold mid (λ rows. WhereKnown answer (λ j. A mid rows → B mid rows → judged (context_of mid rows s) j ≡ given mid rows))
     → A f made → B f made → given f made ≡ value

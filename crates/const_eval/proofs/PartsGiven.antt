@@ -1,11 +1,11 @@
 -- What parts give one after another is what the whole expression gives.
 use Rattle.std.proofs.Common.{◌≡◌, ◌∙◌, ℕ}
 use Rattle.m2_base.specs.Gives.{Gives, and_then, gives}
-use Rattle.m2_base.specs.Statics.Constants.{designator_in, element_in, elements_in, form_in, many_in, next_in, operand_in, value_wanted}
+use Rattle.m2_base.specs.Statics.Constants.{element_in, form_in, many_in, next_in, operand_in, value_wanted}
 use Rattle.m2_base.specs.Statics.Contexts.{Context}
 use Rattle.m2_base.specs.Statics.Operations.{apply_one, operate}
-use Rattle.m2_base.specs.Statics.Sets.{element_of, no_elements, set_base, set_type_of, with_elements}
-use Rattle.m2_base.specs.Trees.{Designator, Expr, Labels, Nexts, designator_at, expr_at, many_form, next, one_form, one_label, range_label, typed_set_form}
+use Rattle.m2_base.specs.Statics.Sets.{element_of, with_elements}
+use Rattle.m2_base.specs.Trees.{Expr, Nexts, expr_at, many_form, next, one_form, one_label, range_label}
 use Rattle.m2_base.specs.declared.operands.Operand.{Operand}
 use Rattle.m2_base.specs.declared.rows.Place.{Place}
 use Rattle.m2_base.specs.declared.trees.operators.Operator.{Operator}
@@ -19,10 +19,6 @@ module _ (c : Context) where
 
   pub many_given : (at : ℕ) (first : Expr) (rest : Nexts) → and_then (value_in c first) (λ x. many_in c at x rest) ≡ form_in c at (many_form first rest)
   many_given at first rest = and_then_assoc (operand_in c first) (λ o. value_wanted c (expr_at first) o) (λ x. many_in c at x rest)
-
-  pub typed_set_given : (at : ℕ) (d : Designator) (items : Labels)
-      → and_then (and_then (designator_in c d) (λ o. set_type_of c (designator_at d) o)) (λ t. elements_in c (set_base c t) (no_elements c t) items) ≡ form_in c at (typed_set_form d items)
-  typed_set_given at d items = and_then_assoc (designator_in c d) (λ o. set_type_of c (designator_at d) o) (λ t. elements_in c (set_base c t) (no_elements c t) items)
 
   pub next_given : (at : ℕ) (x : Operand) (op : Operator) (op_at : ℕ) (e : Expr) → and_then (value_in c e) (λ y. operate c op op_at x at y (expr_at e)) ≡ next_in c at x (next op op_at e)
   next_given at x op op_at e = and_then_assoc (operand_in c e) (λ o. value_wanted c (expr_at e) o) (λ y. operate c op op_at x at y (expr_at e))

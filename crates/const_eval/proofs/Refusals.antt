@@ -37,20 +37,13 @@ operation_bad c op at x y number bad = go (is_arithmetic op) (is_relation op) nu
     go false true h = result_bad c at k op boolean x y bad
     go false false h = absurd (cc)
 
-or_true : (b : Bool) → b || true ≡ true
+pub or_true : (b : Bool) → b || true ≡ true
 or_true true = refl
 or_true false = refl
 
-and_false : (b : Bool) → b && false ≡ false
+pub and_false : (b : Bool) → b && false ≡ false
 and_false true = refl
 and_false false = refl
-
--- the right operand is refused
-pub refused_right : (c : Context) (op : Operator) (at : ℕ) (x : Operand) (left : Place) (y : Operand) (y_at : ℕ) (f : Fault) → is_arithmetic op || is_relation op ≡ true
-    → judged c (Err f) ≡ as_number c y_at left y → judged c (Err f) ≡ and_then (as_number c y_at left y) (λ y'. number_operation c op at x y')
-refused_right c op at x left y y_at f number e =
-    sym (ap (λ (g : Gives Operand). and_then g (λ y'. number_operation c op at x y')) (sym e)
-    ∙ ap (λ (g : Gives Operand). and_then (judged c (Err f)) (λ y'. g)) (operation_bad c op at x InError number (or_true (is_bad x))))
 
 -- beside a whole constant no operand changes
 as_number_whole : (c : Context) (at : ℕ) (y : Operand) → as_number c at whole y ≡ gives y

@@ -1,5 +1,5 @@
 -- The standard types, where their rows are where they belong, as they are where the texts are told.
-use Rattle.std.proofs.Common.{◌≡◌, ◌⊎◌, ◌∙◌, ◌||◌, ◌+◌, ◌-◌, ◌<◌, ◌≤◌, ℕ, zero, suc, ℤ, pos, Bool, true, false, if◌then◌else◌, List, [], ◌∷◌, ◌++◌, length, map, Some, None, refl, ap, sym, subst, arith, inl, inr}
+use Rattle.std.proofs.Common.{◌≡◌, ◌⊎◌, ◌∙◌, ◌||◌, ◌+◌, ◌-◌, ◌<◌, ◌≤◌, ℕ, zero, suc, ℤ, pos, Bool, true, false, if◌then◌else◌, List, [], ◌∷◌, ◌++◌, length, map, None, refl, ap, sym, subst, arith, inl, inr}
 use Rattle.std.specs.Prelude.{slice_index_or}
 use Rattle.std.proofs.lemmas.Bool.{true≢false}
 use Rattle.m2_base.specs.Lists.{Each}
@@ -18,7 +18,6 @@ use Rattle.m2_base.specs.Statics.Contexts.{Context, row_at}
 use Rattle.m2_base.specs.Statics.Lookup.{entry_at}
 use Rattle.m2_base.specs.Statics.NamedOperands.{operand_by, operand_of}
 use Rattle.m2_base.specs.Statics.Operations.{is_set_kind}
-use Rattle.m2_base.specs.Statics.Ranges.{cardinal_range, integer_range}
 use Rattle.m2_base.specs.Statics.Sets.{set_base, set_base_by}
 use Rattle.m2_base.specs.Statics.Types.{base_by, base_of, is_broken, kind_of, meaning_at, range_by, range_of, stands_as, stands_for}
 use Rattle.m2_base.specs.Tables.{rows_at}
@@ -78,9 +77,6 @@ module _ (c : Context) (there : HasStandardRows c) where
     broken_itself : is_broken c.scene (at_place 0 n) ≡ is_same_place (at_place 0 n) broken
     broken_itself = ap (λ (t : Place). is_same_place t broken) stands_itself
 
-    range_itself : range_of c.scene (at_place 0 n) ≡ range_by m
-    range_itself = ap (λ (t : Place). range_by (meaning_at c.scene t)) stands_itself ∙ ap range_by (meaning_of n m is)
-
   pub char_base : base_of c.scene character ≡ character
   char_base = base_itself 2 Character refl refl refl
 
@@ -102,14 +98,6 @@ module _ (c : Context) (there : HasStandardRows c) where
         | inl is ↦ subst (λ (u : Place). base_of c.scene u ≡ u) (sym is) (base_itself 0 Integer refl refl refl)
         | inr is ↦ subst (λ (u : Place). base_of c.scene u ≡ u) (sym is) (base_itself 1 Cardinal refl refl refl)
       ]
-
-  pub integer_ends : (t : Place) → is_same_place t integer ≡ true → Some integer_range ≡ range_of c.scene t
-  integer_ends t e = sym (ap (range_of c.scene) (same_place-is t integer e) ∙ range_itself 0 Integer refl refl)
-
-  pub cardinal_ends : (t : Place) → is_integer_or_cardinal t ≡ true → is_same_place t integer ≡ false → Some cardinal_range ≡ range_of c.scene t
-  cardinal_ends t number other =
-      let is : is_same_place t cardinal ≡ true = ap (λ (b : Bool). b || is_same_place t cardinal) (sym other) ∙ number in
-      sym (ap (range_of c.scene) (same_place-is t cardinal is) ∙ range_itself 1 Cardinal refl refl)
 
   -- ** No standard type has a part in error
 

@@ -1,6 +1,6 @@
 -- Arguments that are types, and what is refused there.
-use Rattle.std.proofs.Common.{◌≡◌, ◌∙◌, ℕ, ℤ, Bool, true, false, Result, Err, refl, sym, ap, if◌then◌else◌}
-use Rattle.std.specs.Prelude.{◌&&◌, is_none, not}
+use Rattle.std.proofs.Common.{◌≡◌, ◌∙◌, ℕ, ℤ, Bool, true, false, Err, refl, sym, ap, if◌then◌else◌}
+use Rattle.std.specs.Prelude.{◌&&◌, Option, is_none, not}
 use Rattle.m2_base.specs.Diagnostics.{code_of}
 use Rattle.m2_base.specs.Finished.{IsFinished}
 use Rattle.m2_base.specs.Gives.{Gives, and_then, gives}
@@ -8,17 +8,14 @@ use Rattle.m2_base.specs.Rows.{is_same_place}
 use Rattle.m2_base.specs.Standard.{broken}
 use Rattle.m2_base.specs.States.{Frame}
 use Rattle.m2_base.specs.Statics.Contexts.{Context, refuse}
-use Rattle.m2_base.specs.Statics.Diagnostics.{wrong_argument}
-use Rattle.m2_base.specs.Statics.Functions.{converted, end_value, ordinal_type, val_as}
+use Rattle.m2_base.specs.Statics.Diagnostics.{not_a_type, wrong_argument}
+use Rattle.m2_base.specs.Statics.Functions.{converted, end_value, ordinal_type, type_argument, val_as}
 use Rattle.m2_base.specs.Statics.Ranges.{Range}
 use Rattle.m2_base.specs.Statics.Types.{is_broken, range_of}
 use Rattle.m2_base.specs.declared.operands.Operand.{Operand}
-use Rattle.m2_base.specs.declared.operands.Operand.TheVariants.{InError}
-use Rattle.m2_base.specs.declared.replies.Ask.{Ask}
-use Rattle.m2_base.specs.declared.replies.Ask.TheVariants.{Known, DontKnowYet}
+use Rattle.m2_base.specs.declared.operands.Operand.TheVariants.{InError, NamedType}
 use Rattle.m2_base.specs.declared.rows.Place.{Place}
 use Rattle.m2_base.specs.declared.sites.Site.{Site}
-use Rattle.type_rules.specs.Asks.{WhereKnown}
 use Rattle.type_rules.specs.Scenes.{Hand}
 use Rattle.type_rules.specs.Sites.{SuitsSite, context_of}
 use Rattle.const_eval.specs.Judgements.{judged, judged_or}
@@ -36,13 +33,8 @@ val_as_bad c at t = go (is_broken c.scene t)
 pub val_refused : (c : Context) (f : Fault) (at : ℕ) (t : Place) → judged c (Err f) ≡ and_then (judged c (Err f)) (λ v. val_as c at t v)
 val_refused c f at t = ap (λ (g : Gives Operand). and_then (judged c (Err f)) (λ v. g)) (sym (val_as_bad c at t))
 
--- an answer as another
-pub type_judged_as : (answer : Ask (Result Place Fault)) (c : Context) (given value : Gives Place) → WhereKnown answer (λ j. judged_or c broken j ≡ given) → given ≡ value → WhereKnown answer (λ j. judged_or c broken j ≡ value)
-type_judged_as (Known j) c given value told is = told ∙ is
-type_judged_as (DontKnowYet head) c given value told is = tt
-
 -- the type of parts in error passes for an ordinal one
-broken_passes : (f : Frame) (made : Hand) (s : Site) → SuitsSite f s → IsFinished f.setting.texts made.finished → (at : ℕ) → ordinal_type (context_of f made s) at broken ≡ gives broken
+pub broken_passes : (f : Frame) (made : Hand) (s : Site) → SuitsSite f s → IsFinished f.setting.texts made.finished → (at : ℕ) → ordinal_type (context_of f made s) at broken ≡ gives broken
 broken_passes f made s suits told at =
     let c = context_of f made s in
     ap (λ (t : Place). if not (is_same_place t broken) && is_none (range_of c.scene broken) then refuse c at wrong_argument broken else gives broken)
@@ -59,3 +51,15 @@ pub end_refused : (f : Frame) (made : Hand) (s : Site) → SuitsSite f s → IsF
 end_refused f made s suits told fault end =
     let c = context_of f made s in
     ap (λ r. refuse c fault.at (code_of fault.kind) (end_value c broken end r)) (sym (broken_range f made s.around.now suits.around told))
+
+-- an end of a type's range, after the type
+pub end_given : (c : Context) (of : Place) (end : Range → ℤ) (ends : Option Range) (first : Gives Place) → ends ≡ range_of c.scene of → gives of ≡ first
+    → gives (end_value c of end ends) ≡ and_then first (λ t. gives (end_value c t end (range_of c.scene t)))
+end_given c of end ends first e is =
+    ap (λ r. gives (end_value c of end r)) e ∙ ap (λ (t : Gives Place). and_then t (λ t. gives (end_value c t end (range_of c.scene t)))) is
+
+-- what is no type is refused
+pub no_type : (c : Context) (at : ℕ) (x : Operand) → ((t : Place) → x ≡ NamedType t → ⊥) → (x ≡ InError → ⊥) → refuse c at not_a_type broken ≡ type_argument c at x
+no_type c at (NamedType t) named in_error = absurd (named t refl)
+no_type c at InError named in_error = absurd (in_error refl)
+no_type c at x named in_error = refl

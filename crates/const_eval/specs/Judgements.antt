@@ -1,5 +1,5 @@
 -- Judgements: what an operator or a standard function gives of its operands, or what is wrong there.
-use Rattle.std.specs.Prelude.{Option, Some, None, Result, Ok, Err}
+use Rattle.std.specs.Prelude.{Result, Ok, Err}
 use Rattle.m2_base.specs.Diagnostics.{code_of}
 use Rattle.m2_base.specs.Gives.{Gives, gives}
 use Rattle.m2_base.specs.Statics.Contexts.{Context, refuse}
@@ -15,8 +15,3 @@ judged_or c instead (Err f) = refuse c f.at (code_of f.kind) instead
 -- what a judgement on operands gives: where something is wrong, the operand is in error
 abbrev pub judged : Context → Result Operand Fault → Gives Operand
 judged c j = judged_or c InError j
-
--- a judgement that is made, or what is given otherwise
-abbrev pub settled_or : Context → Option (Result Operand Fault) → (rest : Gives Operand) → Gives Operand
-settled_or c (Some j) rest = judged c j
-settled_or c None rest = rest

@@ -2,7 +2,6 @@ pub mod Analyses
 pub mod Based
 pub mod Calls
 pub mod Causes
-pub mod Ends
 pub mod Extremes
 pub mod Judgements
 pub mod NamedTexts

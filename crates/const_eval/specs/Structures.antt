@@ -1,7 +1,6 @@
 -- The rows of set types.
-use Rattle.std.specs.Prelude.{Bool, false, Option, None, Some, ℕ}
+use Rattle.std.specs.Prelude.{Option, None, Some, ℕ}
 use Rattle.m2_base.specs.Gives.{Gives, gives}
-use Rattle.m2_base.specs.Rows.{is_same_place}
 use Rattle.m2_base.specs.Standard.{broken}
 use Rattle.m2_base.specs.Statics.Contexts.{Context, refuse}
 use Rattle.m2_base.specs.Statics.Diagnostics.{wrong_index}
@@ -13,11 +12,6 @@ use Rattle.m2_base.specs.declared.rows.RowMeaning.TheVariants.{Set}
 abbrev pub set_row_by : Place → RowMeaning → Option (Place × Place)
 set_row_by p (Set base) = Some (p, base)
 set_row_by p other = None
-
--- two sets' rows are one
-abbrev pub are_alike : Option (Place × Place) → Option (Place × Place) → Bool
-are_alike (Some x) (Some y) = is_same_place x.0 y.0
-are_alike x y = false
 
 -- the type that a set's row gives
 abbrev pub type_by : Context → (at : ℕ) → Option (Place × Place) → Gives Place

@@ -1,13 +1,11 @@
 //! The arguments of a call, as far as functions of constants look at them.
 ghost use Rattle.std.specs.Prelude.{◌≡◌, ◌++◌, ◌∷◌, [], List};
 ghost use Rattle.m2_base.specs.States.{Frame};
-ghost use Rattle.const_eval.specs.Calls.{IsSummary, instead_of, is_in_error as spec_in_error};
-ghost use Rattle.const_eval.specs.Calls.{with_argument as spec_with};
+ghost use Rattle.const_eval.specs.Calls.{IsSummary, instead_of};
 ghost use Rattle.const_eval.specs.Parts.{with_more};
 ghost use Rattle.const_eval.specs.Sites.{AreArguments, IsOperand};
 
 use crate::operands::Argument;
-use crate::operators::either;
 use m2_base::Operand;
 
 /// How many arguments there are, and up to two of them.
@@ -25,24 +23,6 @@ pub struct Arguments {
     pub shape: Shape,
     /// Whether one of them is in error.
     pub spoilt: bool,
-}
-
-/// Whether an operand is in error.
-fn is_in_error(operand: Operand) -> bool
-    ensures { result ≡ spec_in_error operand }
-{
-    matches!(operand, Operand::InError)
-}
-
-/// A further argument.
-fn with_argument(shape: Shape, arg: Argument) -> Shape
-    ensures { result ≡ spec_with shape arg }
-{
-    match shape {
-        Shape::Empty => Shape::One(arg),
-        Shape::One(first) => Shape::Two(first, arg),
-        _ => Shape::More,
-    }
 }
 
 impl Arguments {
@@ -63,10 +43,13 @@ impl Arguments {
         ensures added { result ≡ with_more self arg }
         ensures there { (f : Frame) → AreArguments f self → IsOperand f arg.operand → AreArguments f result }
     {
-        Arguments {
-            shape: with_argument(self.shape, arg),
-            spoilt: either(self.spoilt, is_in_error(arg.operand)),
-        }
+        let spoilt = self.spoilt || matches!(arg.operand, Operand::InError);
+        let shape = match self.shape {
+            Shape::Empty => Shape::One(arg),
+            Shape::One(first) => Shape::Two(first, arg),
+            _ => Shape::More,
+        };
+        Arguments { shape, spoilt }
     }
 
     /// No constant, but in error where an argument is.

@@ -2,8 +2,6 @@
 ghost use Rattle.std.specs.Prelude.{◌≡◌};
 ghost use Rattle.std.specs.Option.{IfSome};
 ghost use Rattle.m2_base.specs.Asks.{IfKnown};
-ghost use Rattle.m2_base.specs.Rows.{is_same_place};
-ghost use Rattle.m2_base.specs.Standard.{text_type};
 ghost use Rattle.m2_base.specs.States.{State};
 ghost use Rattle.m2_base.specs.Statics.Constants.{constant_of, constant_or_refused as spec_constant};
 ghost use Rattle.m2_base.specs.Views.{expr_view};
@@ -17,15 +15,8 @@ ghost use Rattle.type_rules.specs.Sites.{AreOfSite, SuitsSite, context_of};
 
 use crate::calls::fault_noted;
 use crate::expressions::value_in;
-use m2_base::{Ask, Diagnostic, Expr, Memory, Notes, Operand, Place, Scopes, Site};
+use m2_base::{Ask, Diagnostic, Expr, Memory, Notes, Operand, Scopes, Site};
 use type_rules::TEXT;
-
-/// Whether a type is that of strings.
-fn is_text(of: Place) -> bool
-    ensures { result ≡ is_same_place of text_type }
-{
-    of == TEXT
-}
 
 /// The constant; what is in error gives nothing more, anything else is no constant. No text asks for a constant of the
 /// type of strings that is no string.
@@ -41,7 +32,7 @@ fn constant_or_refused(
 {
     match operand {
         Operand::Constant(of, _) => {
-            if is_text(of) {
+            if of == TEXT {
                 return Err(Memory);
             }
             Ok(Ask::Known(Some(operand)))

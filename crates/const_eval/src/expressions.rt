@@ -1,34 +1,31 @@
 //! What an expression stands for in a constant.
 ghost use Rattle.std.specs.Prelude.{map};
-ghost use Rattle.m2_base.specs.Gives.{and_then};
 ghost use Rattle.m2_base.specs.Statics.Constants.{designator_in as spec_designator, element_in as spec_element};
 ghost use Rattle.m2_base.specs.Statics.Constants.{elements_in as spec_elements, indices_in as spec_indices};
-ghost use Rattle.m2_base.specs.Statics.Constants.{many_in as spec_many, next_in as spec_next};
+ghost use Rattle.m2_base.specs.Statics.Constants.{many_in as spec_many};
 ghost use Rattle.m2_base.specs.Statics.Constants.{operand_in as spec_operand, selector_in as spec_selector};
-ghost use Rattle.m2_base.specs.Statics.Constants.{selectors_in as spec_selectors};
 ghost use Rattle.m2_base.specs.Statics.Sets.{no_elements as spec_none, set_base as spec_base};
-ghost use Rattle.m2_base.specs.Statics.Sets.{set_type_of as spec_set_type};
-ghost use Rattle.m2_base.specs.Trees.{designator_at, exprs, labels, nexts, selectors};
+ghost use Rattle.m2_base.specs.Trees.{exprs, labels, nexts};
 ghost use Rattle.m2_base.specs.Views.{designator_view, expr_view, label_view, next_view, selector_view};
 ghost use Rattle.const_eval.specs.Analyses.{Analysed};
-ghost use Rattle.const_eval.specs.Parts.{arguments_in as spec_arguments, called_in as spec_called};
-ghost use Rattle.const_eval.specs.Parts.{index_in as spec_index, member_in as spec_member, value_in as spec_value};
-ghost use Rattle.m2_base.specs.Statics.ReadTrees.{AreReadExprs, AreReadLabels, AreReadNexts, AreReadSelectors};
-ghost use Rattle.m2_base.specs.Statics.ReadTrees.{IsReadDesignator, IsReadExpr, IsReadLabel, IsReadNext};
+ghost use Rattle.const_eval.specs.Parts.{called_in as spec_called};
+ghost use Rattle.const_eval.specs.Parts.{member_in as spec_member, value_in as spec_value};
+ghost use Rattle.m2_base.specs.Statics.ReadTrees.{AreReadExprs, AreReadLabels, AreReadNexts};
+ghost use Rattle.m2_base.specs.Statics.ReadTrees.{IsReadDesignator, IsReadExpr, IsReadLabel};
 ghost use Rattle.m2_base.specs.Statics.ReadTrees.{IsReadSelector};
-ghost use Rattle.const_eval.specs.Sites.{AreArguments, IsOperand};
+ghost use Rattle.const_eval.specs.Sites.{IsOperand};
 ghost use Rattle.type_rules.specs.Scenes.{IsThere};
 ghost use Rattle.type_rules.specs.Sites.{SuitsSite};
 
 use crate::arguments::Arguments;
 use crate::calls::{call_with, value_noted};
 use crate::names::name_operand;
+use crate::noting::note_type;
 use crate::operands::{Argument, BasedSet, PlacedOperator};
 use crate::set_bits::with_elements;
-use crate::steps::{
-    applied_one, field_operand, operated, picked, set_start, set_type, string_constant, taken,
-    with_index,
-};
+use crate::sets::{no_elements, set_base, set_type_of};
+use crate::steps::{applied_one, operated, picked, string_constant, taken};
+use crate::values::spoilt_by;
 use m2_base::{
     Ask, Designator, Expr, ExprForm, Label, Memory, Next, Notes, Operand, Place, Scopes, Selector,
     Site,
@@ -55,7 +52,9 @@ fn operand_in<S: Scopes>(
         ExprForm::Set { of, items } => match of {
             None => set_in(scopes, site, BITSET, items, notes),
             Some(name) => {
-                let place = analysed!(set_type_in(scopes, site, name, notes));
+                let operand = analysed!(designator_in(scopes, site, name, notes));
+                let given = set_type_of(scopes, site, name.first.at, operand);
+                let place = analysed!(note_type(site.around.text, given, notes));
                 set_in(scopes, site, place, items, notes)
             }
         },
@@ -119,36 +118,19 @@ fn nexts_in<S: Scopes>(
     let at = first.at;
     let mut operand = first.operand;
     for next in rest.iter() {
-        operand = analysed!(next_in(scopes, site, Argument { at, operand }, next, notes));
+        let behind = analysed!(value_in(scopes, site, &next.right, notes));
+        let left = Argument { at, operand };
+        let right = Argument {
+            at: next.right.at,
+            operand: behind,
+        };
+        let operator = PlacedOperator {
+            at: next.op_at,
+            operator: next.op,
+        };
+        operand = analysed!(operated(scopes, site, operator, (left, right), notes));
     }
     Ok(Ask::Known(operand))
-}
-
-/// An operator and the operand behind it, after the operand before it.
-#[cycle(expressions)]
-fn next_in<S: Scopes>(
-    scopes: &mut S,
-    site: &Site,
-    left: Argument,
-    next: &Next,
-    notes: &mut Notes,
-) -> Result<Ask<Operand>, Memory>
-    requires suits { SuitsSite (S.state scopes.old).frame site.now }
-    requires left { IsOperand (S.state scopes.old).frame left.operand }
-    requires read { IsReadNext site.now.texts.now.names (next_view next.now) }
-    ensures { Analysed (S.state scopes.old) (S.state scopes.new) notes.old notes.new site.now result IsOperand
-        (λ c. spec_next c left.at left.operand (next_view next.now)) }
-{
-    let operand = analysed!(value_in(scopes, site, &next.right, notes));
-    let right = Argument {
-        at: next.right.at,
-        operand,
-    };
-    let operator = PlacedOperator {
-        at: next.op_at,
-        operator: next.op,
-    };
-    operated(scopes, site, operator, (left, right), notes)
 }
 
 /// A set of this type with these elements.
@@ -166,29 +148,15 @@ fn set_in<S: Scopes>(
     ensures { Analysed (S.state scopes.old) (S.state scopes.new) notes.old notes.new site.now result IsOperand
         (λ c. spec_elements c (spec_base c of) (spec_none c of) (labels (map label_view items.now))) }
 {
-    let empty = match set_start(scopes, site, of) {
-        Ask::Known(empty) => empty,
+    let base = match set_base(scopes, site, of) {
+        Ask::Known(base) => base,
         Ask::DontKnowYet(head) => return Ok(Ask::DontKnowYet(head)),
     };
-    elements_in(scopes, site, empty, items, notes)
-}
-
-/// The type before the brackets of a set.
-#[cycle(expressions)]
-fn set_type_in<S: Scopes>(
-    scopes: &mut S,
-    site: &Site,
-    of: &Designator,
-    notes: &mut Notes,
-) -> Result<Ask<Place>, Memory>
-    requires suits { SuitsSite (S.state scopes.old).frame site.now }
-    requires read { IsReadDesignator site.now.texts.now.names (designator_view of.now) }
-    ensures { Analysed (S.state scopes.old) (S.state scopes.new) notes.old notes.new site.now result IsThere
-        (λ c. and_then (spec_designator c (designator_view of.now))
-        (λ o. spec_set_type c (designator_at (designator_view of.now)) o)) }
-{
-    let operand = analysed!(designator_in(scopes, site, of, notes));
-    set_type(scopes, site, of.first.at, operand, notes)
+    let set = match no_elements(scopes, site, of) {
+        Ask::Known(set) => set,
+        Ask::DontKnowYet(head) => return Ok(Ask::DontKnowYet(head)),
+    };
+    elements_in(scopes, site, BasedSet { base, set }, items, notes)
 }
 
 /// A set with further elements.
@@ -273,38 +241,15 @@ fn designator_in<S: Scopes>(
     ensures { Analysed (S.state scopes.old) (S.state scopes.new) notes.old notes.new site.now result IsOperand
         (λ c. spec_designator c (designator_view of.now)) }
 {
-    let operand = analysed!(name_operand(scopes, site, None, of.first, notes));
-    let first = Argument {
-        at: of.first.at,
-        operand,
-    };
-    selectors_in(scopes, site, first, &of.rest, notes)
-}
-
-/// What the selectors select, one after another.
-#[cycle(expressions)]
-fn selectors_in<S: Scopes>(
-    scopes: &mut S,
-    site: &Site,
-    of: Argument,
-    rest: &[Selector],
-    notes: &mut Notes,
-) -> Result<Ask<Operand>, Memory>
-    requires suits { SuitsSite (S.state scopes.old).frame site.now }
-    requires of { IsOperand (S.state scopes.old).frame of.operand }
-    requires read { AreReadSelectors site.now.texts.now.names (selectors (map selector_view rest.now)) }
-    ensures { Analysed (S.state scopes.old) (S.state scopes.new) notes.old notes.new site.now result IsOperand
-        (λ c. spec_selectors c of.at of.operand (selectors (map selector_view rest.now))) }
-{
-    let at = of.at;
-    let mut operand = of.operand;
-    for selector in rest.iter() {
+    let at = of.first.at;
+    let mut operand = analysed!(name_operand(scopes, site, None, of.first, notes));
+    for selector in of.rest.iter() {
         operand = analysed!(selector_in(scopes, site, Argument { at, operand }, selector, notes));
     }
     Ok(Ask::Known(operand))
 }
 
-/// What a selector selects.
+/// What a selector selects: a name behind a point is, of a module, that name in it.
 #[cycle(expressions)]
 fn selector_in<S: Scopes>(
     scopes: &mut S,
@@ -320,7 +265,10 @@ fn selector_in<S: Scopes>(
         (λ c. spec_selector c of.at of.operand (selector_view selector.now)) }
 {
     match selector {
-        Selector::Field(ident, _) => field_operand(scopes, site, of, *ident, notes),
+        Selector::Field(ident, _) => match of.operand {
+            Operand::ModuleName(scope) => name_operand(scopes, site, Some(scope), *ident, notes),
+            _ => picked(site, of.at, of.operand, notes),
+        },
         Selector::Index(es, _) => indices_in(scopes, site, of, es, notes),
         Selector::Deref(_) => picked(site, of.at, of.operand, notes),
     }
@@ -344,51 +292,14 @@ fn indices_in<S: Scopes>(
     let at = of.at;
     let mut operand = of.operand;
     for e in es.iter() {
-        operand = analysed!(index_in(scopes, site, Argument { at, operand }, e, notes));
+        let index = analysed!(value_in(scopes, site, e, notes));
+        let part = analysed!(picked(site, at, operand, notes));
+        operand = spoilt_by(index, part);
     }
     Ok(Ask::Known(operand))
 }
 
-/// An operand with an index expression.
-#[cycle(expressions)]
-fn index_in<S: Scopes>(
-    scopes: &mut S,
-    site: &Site,
-    of: Argument,
-    e: &Expr,
-    notes: &mut Notes,
-) -> Result<Ask<Operand>, Memory>
-    requires suits { SuitsSite (S.state scopes.old).frame site.now }
-    requires read { IsReadExpr site.now.texts.now.names (expr_view e.now) }
-    ensures { Analysed (S.state scopes.old) (S.state scopes.new) notes.old notes.new site.now result IsOperand
-        (λ c. spec_index c of.at of.operand (expr_view e.now)) }
-{
-    let index = analysed!(value_in(scopes, site, e, notes));
-    with_index(site, of.at, of.operand, index, notes)
-}
-
-/// The arguments of a call, summed up.
-#[cycle(expressions)]
-fn arguments_in<S: Scopes>(
-    scopes: &mut S,
-    site: &Site,
-    es: &[Expr],
-    notes: &mut Notes,
-) -> Result<Ask<Arguments>, Memory>
-    requires suits { SuitsSite (S.state scopes.old).frame site.now }
-    requires read { AreReadExprs site.now.texts.now.names (exprs (map expr_view es.now)) }
-    ensures { Analysed (S.state scopes.old) (S.state scopes.new) notes.old notes.new site.now result AreArguments
-        (λ c. spec_arguments c (exprs (map expr_view es.now))) }
-{
-    let mut args = Arguments::new();
-    for e in es.iter() {
-        let operand = analysed!(operand_in(scopes, site, e, notes));
-        args = args.with(Argument { at: e.at, operand });
-    }
-    Ok(Ask::Known(args))
-}
-
-/// A call of an operand.
+/// A call of an operand; its arguments are summed up first.
 #[cycle(expressions)]
 fn called_in<S: Scopes>(
     scopes: &mut S,
@@ -403,6 +314,10 @@ fn called_in<S: Scopes>(
     ensures { Analysed (S.state scopes.old) (S.state scopes.new) notes.old notes.new site.now result IsOperand
         (λ c. spec_called c to.at to.operand (exprs (map expr_view es.now))) }
 {
-    let args = analysed!(arguments_in(scopes, site, es, notes));
+    let mut args = Arguments::new();
+    for e in es.iter() {
+        let operand = analysed!(operand_in(scopes, site, e, notes));
+        args = args.with(Argument { at: e.at, operand });
+    }
     call_with(scopes, site, to, args, notes)
 }

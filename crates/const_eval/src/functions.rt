@@ -1,25 +1,17 @@
 //! The standard functions that constants may have: what each takes and gives.
-ghost use Rattle.std.specs.Prelude.{◌≡◌, ◌&&◌, IfOk, if◌then◌else◌, is_none, not, option_map};
-ghost use Rattle.m2_base.specs.Gives.{and_then, gives};
-ghost use Rattle.m2_base.specs.Rows.{is_same_place};
+ghost use Rattle.std.specs.Prelude.{◌≡◌, ◌&&◌, IfOk, if◌then◌else◌};
+ghost use Rattle.m2_base.specs.Gives.{and_then};
 ghost use Rattle.m2_base.specs.Standard.{boolean, broken as broken_type, character};
 ghost use Rattle.m2_base.specs.States.{Frame, Waits};
-ghost use Rattle.m2_base.specs.Statics.Contexts.{Context, Source, refuse};
-ghost use Rattle.m2_base.specs.Statics.Diagnostics.{wrong_argument};
-ghost use Rattle.m2_base.specs.Statics.Folding.{number_kind as spec_number_kind, number_type as spec_number_type};
+ghost use Rattle.m2_base.specs.Statics.Contexts.{Context, Source};
 ghost use Rattle.m2_base.specs.Statics.Operands.{char_or_same as spec_char_or_same};
-ghost use Rattle.m2_base.specs.Statics.Operations.{base_type};
-ghost use Rattle.m2_base.specs.Statics.Ranges.{range};
-ghost use Rattle.m2_base.specs.Statics.Types.{range_of as spec_range};
 ghost use Rattle.m2_base.specs.Statics.Functions.{abs_of as spec_abs, absolute as spec_absolute, cap_of as spec_cap};
 ghost use Rattle.m2_base.specs.Statics.Functions.{capital as spec_capital, chr_of as spec_chr};
 ghost use Rattle.m2_base.specs.Statics.Functions.{converted as spec_converted, number_argument as spec_number};
 ghost use Rattle.m2_base.specs.Statics.Functions.{odd_of as spec_odd, oddness as spec_oddness, ord_of as spec_ord};
 ghost use Rattle.m2_base.specs.Statics.Functions.{ordinal_argument as spec_ordinal_argument};
-ghost use Rattle.m2_base.specs.Statics.Functions.{ordinal_type as spec_ordinal_type};
 ghost use Rattle.m2_base.specs.Statics.Functions.{ordinal_type_argument as spec_ordinal_type_argument};
-ghost use Rattle.m2_base.specs.Statics.Functions.{type_argument as spec_type_argument, val_as as spec_val_as};
-ghost use Rattle.m2_base.specs.Statics.Functions.{wrong_at};
+ghost use Rattle.m2_base.specs.Statics.Functions.{val_as as spec_val_as};
 ghost use Rattle.const_eval.specs.Judgements.{judged, judged_or};
 ghost use Rattle.const_eval.specs.Sites.{IsNamed, IsOperand, IsSmallConstant};
 ghost use Rattle.type_rules.specs.Asks.{Reads, WhereKnown, WhereWaiting};
@@ -34,18 +26,6 @@ use crate::pairs::{is_ordinal, is_within};
 use crate::structures::is_broken;
 use m2_base::{Ask, Diagnostic, GREATEST_INTEGER, Operand, Place, Scopes, Site};
 use type_rules::{BOOLEAN, BROKEN, CARDINAL, CHARACTER, INTEGER, base_of, operand_type, range_of};
-
-/// An argument under a condition, or what is refused otherwise.
-fn kept_or_refused(holds: bool, at: u32, x: Operand) -> Result<Operand, Fault>
-    ensures told { (c : Context) → judged c result ≡ (if holds then gives x else wrong_at c at) }
-    ensures there { (f : Frame) → IsOperand f x → IfOk result (λ operand. IsOperand f operand) }
-{
-    if holds {
-        Ok(x)
-    } else {
-        fault!(at, WrongArgument)
-    }
-}
 
 /// An argument that is a number.
 #[tactic(auto, using(type_rules::proofs::Reading::reading, crate::proofs::TypesThere::there))]
@@ -68,7 +48,11 @@ fn number_argument<S: Scopes>(
         return Ask::Known(Ok(x));
     }
     let base = known!(base_of(scopes, site.around, operand_type(&x)));
-    Ask::Known(kept_or_refused(is_number(base), at, x))
+    if is_number(base) {
+        Ask::Known(Ok(x))
+    } else {
+        Ask::Known(fault!(at, WrongArgument))
+    }
 }
 
 /// The same as `char_or_same`, by the names of the site: a string of one character is that CHAR, anything else is as
@@ -104,63 +88,11 @@ pub(crate) fn ordinal_argument<S: Scopes>(
         return Ask::Known(Ok(x));
     }
     let taken = char_of_string(site, x);
-    let ordinal = known!(is_ordinal(scopes, site, taken));
-    Ask::Known(kept_or_refused(ordinal, at, taken))
-}
-
-/// An argument that is a type.
-fn type_argument(at: u32, x: Operand) -> Result<Place, Fault>
-    ensures told { (c : Context) → judged_or c broken_type result ≡ spec_type_argument c at x }
-    ensures there { (f : Frame) → IsOperand f x → IsThere f broken_type → IfOk result (λ of. IsThere f of) }
-{
-    match x {
-        Operand::NamedType(of) => Ok(of),
-        Operand::InError => Ok(BROKEN),
-        _ => fault!(at, NotAType),
+    if known!(is_ordinal(scopes, site, taken)) {
+        Ask::Known(Ok(taken))
+    } else {
+        Ask::Known(fault!(at, WrongArgument))
     }
-}
-
-/// A type that has these ends, or is in error; anything else is refused.
-fn type_with_range(
-    at: u32,
-    of: Place,
-    broken: bool,
-    ends: Option<(i64, i64)>,
-) -> Result<Place, Fault>
-    ensures told { (c : Context) → judged_or c broken_type result
-        ≡ (if not broken && is_none (option_map (λ ends. range ends.0 ends.1) ends) then
-        refuse c at wrong_argument broken_type else gives of) }
-    ensures there { (f : Frame) → IsThere f of → IfOk result (λ of. IsThere f of) }
-{
-    if broken {
-        return Ok(of);
-    }
-    match ends {
-        Some(_) => Ok(of),
-        None => fault!(at, WrongArgument),
-    }
-}
-
-/// A type that must be ordinal, unless it is in error.
-#[tactic(auto, using(type_rules::proofs::Reading::reading, crate::proofs::TypesThere::there))]
-fn ordinal_type<S: Scopes>(
-    scopes: &mut S,
-    site: &Site,
-    at: u32,
-    of: Place,
-) -> Ask<Result<Place, Fault>>
-    requires suits { SuitsSite (S.state scopes.old).frame site.now }
-    requires of { IsThere (S.state scopes.old).frame of }
-    ensures reads { Reads (S.state scopes.old) (S.state scopes.new) }
-    ensures waits { WhereWaiting result (λ head. Waits (S.state scopes.old) (S.state scopes.new) head) }
-    ensures told { WhereTold (S.state scopes.old).frame (λ made.
-        WhereKnown result (λ given. let c = context_of (S.state scopes.old).frame made site.now in
-        judged_or c broken_type given ≡ spec_ordinal_type c at of)) }
-    ensures there { WhereKnown result (λ given. IfOk given (λ of. IsThere (S.state scopes.old).frame of)) }
-{
-    let broken = known!(is_broken(scopes, site.around, of));
-    let ends = known!(range_of(scopes, site.around, of));
-    Ask::Known(type_with_range(at, of, broken, ends))
 }
 
 /// Judges an argument that must be an ordinal type, as that of MIN: `at` is its first token. What is no type is a
@@ -181,33 +113,17 @@ pub fn ordinal_type_argument<S: Scopes>(
         judged_or c broken_type given ≡ spec_ordinal_type_argument c at x)) }
     ensures there { WhereKnown result (λ given. IfOk given (λ of. IsThere (S.state scopes.old).frame of)) }
 {
-    match type_argument(at, x) {
-        Ok(of) => ordinal_type(scopes, site, at, of),
-        Err(fault) => Ask::Known(Err(fault)),
+    let of = match x {
+        Operand::NamedType(of) => of,
+        Operand::InError => return Ask::Known(Ok(BROKEN)),
+        _ => return Ask::Known(fault!(at, NotAType)),
+    };
+    if known!(is_broken(scopes, site.around, of)) {
+        return Ask::Known(Ok(of));
     }
-}
-
-/// A value as one of a type with these ends; a constant outside them is refused.
-fn converted_within(
-    at: u32,
-    of: Place,
-    ends: Option<(i64, i64)>,
-    x: Operand,
-) -> Result<Operand, Fault>
-    ensures told { (c : Context) → option_map (λ ends. range ends.0 ends.1) ends ≡ spec_range c.scene of
-        → judged c result ≡ spec_converted c at of x }
-    ensures there { (f : Frame) → IsThere f of → IsOperand f x → IfOk result (λ operand. IsOperand f operand) }
-{
-    match x {
-        Operand::Constant(_, value) => {
-            if is_within(ends, value) {
-                Ok(Operand::Constant(of, value))
-            } else {
-                fault!(at, OutOfRange)
-            }
-        }
-        Operand::InError | Operand::NotConstant => Ok(x),
-        _ => Ok(Operand::Computed(of)),
+    match known!(range_of(scopes, site.around, of)) {
+        Some(_) => Ask::Known(Ok(of)),
+        None => Ask::Known(fault!(at, WrongArgument)),
     }
 }
 
@@ -231,7 +147,17 @@ pub(crate) fn converted<S: Scopes>(
     ensures there { WhereKnown result (λ given. IfOk given (λ operand. IsOperand (S.state scopes.old).frame operand)) }
 {
     let ends = known!(range_of(scopes, site.around, of));
-    Ask::Known(converted_within(at, of, ends, x))
+    match x {
+        Operand::Constant(_, value) => {
+            if is_within(ends, value) {
+                Ask::Known(Ok(Operand::Constant(of, value)))
+            } else {
+                Ask::Known(fault!(at, OutOfRange))
+            }
+        }
+        Operand::InError | Operand::NotConstant => Ask::Known(Ok(x)),
+        _ => Ask::Known(Ok(Operand::Computed(of))),
+    }
 }
 
 /// The absolute value, of a base type; a constant that leaves INTEGER is refused.
@@ -253,27 +179,6 @@ fn absolute(at: u32, of: Place, x: Operand) -> Result<Operand, Fault>
     }
 }
 
-/// The absolute value of a number, of its base type.
-#[tactic(auto, using(type_rules::proofs::Reading::reading, crate::proofs::TypesThere::there))]
-fn number_absolute<S: Scopes>(
-    scopes: &mut S,
-    site: &Site,
-    at: u32,
-    x: Operand,
-) -> Ask<Result<Operand, Fault>>
-    requires suits { SuitsSite (S.state scopes.old).frame site.now }
-    requires x { IsOperand (S.state scopes.old).frame x }
-    ensures reads { Reads (S.state scopes.old) (S.state scopes.new) }
-    ensures waits { WhereWaiting result (λ head. Waits (S.state scopes.old) (S.state scopes.new) head) }
-    ensures told { WhereTold (S.state scopes.old).frame (λ made.
-        WhereKnown result (λ given. let c = context_of (S.state scopes.old).frame made site.now in
-        judged c given ≡ spec_absolute c at (spec_number_type (spec_number_kind (base_type c x))) x)) }
-    ensures there { WhereKnown result (λ given. IfOk given (λ operand. IsOperand (S.state scopes.old).frame operand)) }
-{
-    let base = known!(base_of(scopes, site.around, operand_type(&x)));
-    Ask::Known(absolute(at, number_type(number_kind(base)), x))
-}
-
 /// Judges ABS(x), "absolute value", for an `x` whose first token is `at`: a number of the base of its type. What is no
 /// number is a fault, and so is the constant whose absolute value INTEGER hasn't. It waits for the type.
 #[tactic(auto, using(type_rules::proofs::Reading::reading, crate::proofs::TypesThere::there))]
@@ -292,10 +197,12 @@ pub fn abs_of<S: Scopes>(
         judged c given ≡ spec_abs c at x)) }
     ensures there { WhereKnown result (λ given. IfOk given (λ operand. IsOperand (S.state scopes.old).frame operand)) }
 {
-    match known!(number_argument(scopes, site, at, x)) {
-        Ok(x) => number_absolute(scopes, site, at, x),
-        Err(fault) => Ask::Known(Err(fault)),
-    }
+    let x = match known!(number_argument(scopes, site, at, x)) {
+        Ok(x) => x,
+        Err(fault) => return Ask::Known(Err(fault)),
+    };
+    let base = known!(base_of(scopes, site.around, operand_type(&x)));
+    Ask::Known(absolute(at, number_type(number_kind(base)), x))
 }
 
 /// A letter as a capital, any other character as it is.
@@ -309,19 +216,6 @@ fn capital(x: Operand) -> Operand
         }
         Operand::Constant(_, value) => Operand::Constant(CHARACTER, value),
         _ => Operand::Computed(CHARACTER),
-    }
-}
-
-/// The capital of an operand whose base is CHAR; any other is refused.
-fn capital_or_refused(at: u32, base: Place, x: Operand) -> Result<Operand, Fault>
-    ensures told { (c : Context)
-        → judged c result ≡ (if is_same_place base character then gives (spec_capital x) else wrong_at c at) }
-    ensures there { (f : Frame) → IsThere f character → IsOperand f x → IfOk result (λ operand. IsOperand f operand) }
-{
-    if base == CHARACTER {
-        Ok(capital(x))
-    } else {
-        fault!(at, WrongArgument)
     }
 }
 
@@ -348,7 +242,11 @@ pub fn cap_of<S: Scopes>(
     }
     let taken = char_of_string(site, x);
     let base = known!(base_of(scopes, site.around, operand_type(&taken)));
-    Ask::Known(capital_or_refused(at, base, taken))
+    if base == CHARACTER {
+        Ask::Known(Ok(capital(taken)))
+    } else {
+        Ask::Known(fault!(at, WrongArgument))
+    }
 }
 
 /// Judges CHR(x), "the character with ordinal number x", for an `x` whose first token is `at`: a CHAR, constant where
@@ -436,32 +334,6 @@ pub fn ord_of<S: Scopes>(
     }
 }
 
-/// A value as one of a type, unless that is in error.
-#[tactic(auto, using(type_rules::proofs::Reading::reading, crate::proofs::TypesThere::there))]
-fn val_as<S: Scopes>(
-    scopes: &mut S,
-    site: &Site,
-    at: u32,
-    of: Place,
-    x: Operand,
-) -> Ask<Result<Operand, Fault>>
-    requires suits { SuitsSite (S.state scopes.old).frame site.now }
-    requires of { IsThere (S.state scopes.old).frame of }
-    requires x { IsOperand (S.state scopes.old).frame x }
-    ensures reads { Reads (S.state scopes.old) (S.state scopes.new) }
-    ensures waits { WhereWaiting result (λ head. Waits (S.state scopes.old) (S.state scopes.new) head) }
-    ensures told { WhereTold (S.state scopes.old).frame (λ made.
-        WhereKnown result (λ given. let c = context_of (S.state scopes.old).frame made site.now in
-        judged c given ≡ spec_val_as c at of x)) }
-    ensures there { WhereKnown result (λ given. IfOk given (λ operand. IsOperand (S.state scopes.old).frame operand)) }
-{
-    let broken = known!(is_broken(scopes, site.around, of));
-    if broken {
-        return Ask::Known(Ok(Operand::InError));
-    }
-    converted(scopes, site, at, of, x)
-}
-
 /// Judges VAL(T, x), "the value with ordinal number x and with type T"; `of` is T, and `at` the first token of `x`.
 /// What isn't ordinal is a fault, as is a constant that T hasn't; of a T in error it is in error. It waits for both.
 #[tactic(auto, using(type_rules::proofs::Reading::reading, crate::proofs::TypesThere::there))]
@@ -482,8 +354,12 @@ pub fn val_of<S: Scopes>(
         judged c given ≡ and_then (spec_ordinal_argument c at x) (λ x. spec_val_as c at of x))) }
     ensures there { WhereKnown result (λ given. IfOk given (λ operand. IsOperand (S.state scopes.old).frame operand)) }
 {
-    match known!(ordinal_argument(scopes, site, at, x)) {
-        Ok(x) => val_as(scopes, site, at, of, x),
-        Err(fault) => Ask::Known(Err(fault)),
+    let x = match known!(ordinal_argument(scopes, site, at, x)) {
+        Ok(x) => x,
+        Err(fault) => return Ask::Known(Err(fault)),
+    };
+    if known!(is_broken(scopes, site.around, of)) {
+        return Ask::Known(Ok(Operand::InError));
     }
+    converted(scopes, site, at, of, x)
 }

@@ -4,11 +4,10 @@ ghost use Rattle.std.specs.Option.{IfSome};
 ghost use Rattle.m2_base.specs.Rows.{is_same_place, natural as spec_natural, row_meaning};
 ghost use Rattle.m2_base.specs.Standard.{text_type};
 ghost use Rattle.m2_base.specs.States.{Waits, fills_of};
-ghost use Rattle.m2_base.specs.Statics.Constants.{in_constant as spec_in_constant, name_operand as spec_name};
+ghost use Rattle.m2_base.specs.Statics.Constants.{name_operand as spec_name};
 ghost use Rattle.m2_base.specs.Statics.NamedOperands.{is_in_error as spec_in_error};
-ghost use Rattle.m2_base.specs.Statics.NamedOperands.{is_open_of_broken as spec_open_of_broken, operand_by};
-ghost use Rattle.m2_base.specs.Statics.NamedOperands.{operand_of_use};
-ghost use Rattle.m2_base.specs.Statics.Types.{is_broken as spec_broken, kind_of};
+ghost use Rattle.m2_base.specs.Statics.NamedOperands.{operand_by};
+ghost use Rattle.m2_base.specs.Statics.Types.{is_broken as spec_broken};
 ghost use Rattle.const_eval.specs.Analyses.{Analysed};
 ghost use Rattle.const_eval.specs.Sites.{IsOperand};
 ghost use Rattle.type_rules.specs.Asks.{Reads, WhereKnown, WhereWaiting};
@@ -21,24 +20,6 @@ use m2_base::{
     Around, Ask, Ident, Memory, Notes, Operand, Place, Row, RowMeaning, Scopes, Site, read_row,
 };
 use type_rules::{TEXT, stand, use_name};
-
-/// Whether a type is an open array of what is in error.
-#[tactic(auto, using(type_rules::proofs::Reading::reading))]
-fn is_open_of_broken<S: Scopes>(scopes: &mut S, around: &Around, of: Place) -> Ask<bool>
-    requires suits { Suits (S.state scopes.old).frame around.now }
-    requires there { IsThere (S.state scopes.old).frame of }
-    ensures reads { Reads (S.state scopes.old) (S.state scopes.new) }
-    ensures waits { WhereWaiting result (λ head. Waits (S.state scopes.old) (S.state scopes.new) head) }
-    ensures told { WhereTold (S.state scopes.old).frame (λ made.
-        WhereKnown result (λ holds. let scene = scene_of (S.state scopes.old).frame made around.now in
-        holds ≡ spec_open_of_broken scene (kind_of scene of))) }
-{
-    let (_, meaning) = known!(stand(scopes, around, of));
-    match meaning {
-        RowMeaning::OpenArray(element) => is_broken(scopes, around, element),
-        _ => Ask::Known(false),
-    }
-}
 
 /// Whether a type is that of parts in error, or an open array of such elements: a variable of it is in error. It waits
 /// for the row of the type, and for that of the elements' type.
@@ -54,7 +35,11 @@ pub fn is_in_error<S: Scopes>(scopes: &mut S, around: &Around, of: Place) -> Ask
     if known!(is_broken(scopes, around, of)) {
         return Ask::Known(true);
     }
-    is_open_of_broken(scopes, around, of)
+    let (_, meaning) = known!(stand(scopes, around, of));
+    match meaning {
+        RowMeaning::OpenArray(element) => is_broken(scopes, around, element),
+        _ => Ask::Known(false),
+    }
 }
 
 /// The operand of a constant's row whose type isn't in error: one of the type of strings is a string.
@@ -95,25 +80,6 @@ fn unless_broken<S: Scopes>(
     }
 }
 
-/// A variable, in error where its type is.
-#[tactic(auto, using(type_rules::proofs::Reading::reading))]
-fn variable<S: Scopes>(scopes: &mut S, around: &Around, of: Place) -> Ask<Operand>
-    requires suits { Suits (S.state scopes.old).frame around.now }
-    requires there { IsThere (S.state scopes.old).frame of }
-    ensures reads { Reads (S.state scopes.old) (S.state scopes.new) }
-    ensures waits { WhereWaiting result (λ head. Waits (S.state scopes.old) (S.state scopes.new) head) }
-    ensures told { WhereTold (S.state scopes.old).frame (λ made.
-        WhereKnown result (λ given. given ≡ (if spec_in_error (scene_of (S.state scopes.old).frame made around.now)
-        of then Operand.InError else Operand.Variable of))) }
-    ensures there { WhereKnown result (λ given. IsOperand (S.state scopes.old).frame given) }
-{
-    if known!(is_in_error(scopes, around, of)) {
-        Ask::Known(Operand::InError)
-    } else {
-        Ask::Known(Operand::Variable(of))
-    }
-}
-
 /// What a name stands for that is bound to this row at this place. A constant, a type or a variable is in error where
 /// its type is, and so is every row that no expression can name. It waits for the type's row.
 #[tactic(auto, using(type_rules::proofs::Reading::reading))]
@@ -138,38 +104,19 @@ pub fn operand_of<S: Scopes>(
             unless_broken(scopes, around, of, constant_operand(of, value, length))
         }
         RowMeaning::TypeName(of) => unless_broken(scopes, around, of, Operand::NamedType(of)),
-        RowMeaning::Var(of, _, _) => variable(scopes, around, of),
+        RowMeaning::Var(of, _, _) => {
+            if known!(is_in_error(scopes, around, of)) {
+                Ask::Known(Operand::InError)
+            } else {
+                Ask::Known(Operand::Variable(of))
+            }
+        }
         RowMeaning::Proc(of, number, scope) => {
             Ask::Known(Operand::Procedure(row.name, of, number, scope))
         }
         RowMeaning::Module(scope) => Ask::Known(Operand::ModuleName(scope)),
         RowMeaning::Standard(name) => Ask::Known(Operand::StandardProcedure(name)),
         _ => Ask::Known(Operand::InError),
-    }
-}
-
-/// The operand of what a name is bound to, in a constant: a variable is none. What isn't bound is in error.
-#[tactic(auto, using(type_rules::proofs::Reading::reading))]
-fn bound_operand<S: Scopes>(
-    scopes: &mut S,
-    around: &Around,
-    bound: Option<(Place, Row)>,
-) -> Ask<Operand>
-    requires suits { Suits (S.state scopes.old).frame around.now }
-    requires row { IfSome bound (λ entry. IsRowOf (S.state scopes.old).frame entry.0 entry.1) }
-    ensures reads { Reads (S.state scopes.old) (S.state scopes.new) }
-    ensures waits { WhereWaiting result (λ head. Waits (S.state scopes.old) (S.state scopes.new) head) }
-    ensures told { WhereTold (S.state scopes.old).frame (λ made.
-        WhereKnown result (λ given.
-        given ≡ spec_in_constant (operand_of_use (scene_of (S.state scopes.old).frame made around.now) bound))) }
-    ensures there { WhereKnown result (λ given. IsOperand (S.state scopes.old).frame given) }
-{
-    match bound {
-        Some(entry) => {
-            let operand = known!(operand_of(scopes, around, entry.0, entry.1));
-            Ask::Known(in_constant(operand))
-        }
-        None => Ask::Known(Operand::InError),
     }
 }
 
@@ -189,5 +136,11 @@ pub fn name_operand<S: Scopes>(
         (λ c. spec_name c within ident) }
 {
     let bound = analysed!(use_name(scopes, site, within, ident.name, ident.at, notes));
-    Ok(bound_operand(scopes, site.around, bound))
+    match bound {
+        Some((place, row)) => match operand_of(scopes, site.around, place, row) {
+            Ask::Known(operand) => Ok(Ask::Known(in_constant(operand))),
+            Ask::DontKnowYet(head) => Ok(Ask::DontKnowYet(head)),
+        },
+        None => Ok(Ask::Known(Operand::InError)),
+    }
 }

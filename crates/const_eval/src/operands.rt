@@ -1,10 +1,9 @@
 //! What operands are, and their constants.
-ghost use Rattle.std.specs.Prelude.{◌≡◌, pos};
+ghost use Rattle.std.specs.Prelude.{◌≡◌};
 ghost use Rattle.m2_base.specs.Statics.Contexts.{Source};
-ghost use Rattle.m2_base.specs.Statics.Operands.{first_of, is_bad as spec_bad, is_procedure as spec_procedure};
+ghost use Rattle.m2_base.specs.Statics.Operands.{is_bad as spec_bad, is_procedure as spec_procedure};
 ghost use Rattle.m2_base.specs.Statics.Operands.{constant_of_operand, worse as spec_worse, as_char as spec_as_char};
 ghost use Rattle.m2_base.specs.Statics.Operands.{char_or_same as spec_char_or_same};
-ghost use Rattle.m2_base.specs.Rows.{IsValue};
 ghost use Rattle.m2_base.specs.Standard.{character};
 ghost use Rattle.m2_base.specs.States.{Frame};
 ghost use Rattle.const_eval.specs.Sites.{IsNamed, IsOperand};
@@ -78,20 +77,10 @@ pub(crate) fn as_char(names: &Names, operand: Operand) -> Operand
 {
     match operand {
         Operand::StringConstant(name, _) => {
-            Operand::Constant(CHARACTER, first_byte(names.bytes(name)))
+            let first = names.bytes(name).first().copied().unwrap_or(0);
+            Operand::Constant(CHARACTER, first as i64)
         }
         other => other,
-    }
-}
-
-/// The first byte, of no bytes 0.
-fn first_byte(bytes: &[u8]) -> i64
-    ensures told { result ≡ pos (first_of bytes.now) }
-    ensures value { IsValue result }
-{
-    match bytes.first() {
-        Some(byte) => *byte as i64,
-        None => 0,
     }
 }
 

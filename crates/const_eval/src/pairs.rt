@@ -1,20 +1,14 @@
 //! Two operands beside each other.
-ghost use Rattle.std.specs.Prelude.{◌≡◌, ℕ, ◌&&◌, IfOk, if◌then◌else◌, true, Some, None, not, option_map};
+ghost use Rattle.std.specs.Prelude.{◌≡◌, ◌&&◌, IfOk, if◌then◌else◌, true, Some, None, option_map};
 ghost use Rattle.std.specs.Option.{IfSome};
-ghost use Rattle.m2_base.specs.Rows.{is_same_place};
-ghost use Rattle.m2_base.specs.Standard.{character, whole};
+ghost use Rattle.m2_base.specs.Standard.{character};
 ghost use Rattle.m2_base.specs.States.{Frame, Waits};
-ghost use Rattle.m2_base.specs.Gives.{gives};
 ghost use Rattle.m2_base.specs.Statics.Compatible.{is_beside_char as spec_beside_char, is_compatible};
-ghost use Rattle.m2_base.specs.Statics.Compatible.{is_integer_or_cardinal as is_number_base};
 ghost use Rattle.m2_base.specs.Statics.Compatible.{taken_beside as spec_taken};
 ghost use Rattle.m2_base.specs.Statics.Contexts.{Context};
-ghost use Rattle.m2_base.specs.Statics.Operands.{is_one_char as spec_one_char, is_string as spec_string};
 ghost use Rattle.m2_base.specs.Statics.Operands.{operand_type as spec_operand_type};
 ghost use Rattle.m2_base.specs.Statics.Operations.{as_number as spec_as_number, base_type, is_ordinal as spec_ordinal};
 ghost use Rattle.m2_base.specs.Statics.Ranges.{is_within as spec_within, range};
-ghost use Rattle.m2_base.specs.Statics.Types.{range_of as spec_range};
-ghost use Rattle.m2_base.specs.declared.operands.Operand.{Operand as Taken};
 ghost use Rattle.const_eval.specs.Judgements.{judged};
 ghost use Rattle.const_eval.specs.Numbers.{takes_base as spec_takes};
 ghost use Rattle.const_eval.specs.Sites.{IsNamed, IsOperand};
@@ -46,13 +40,6 @@ pub fn is_within(ends: Option<(i64, i64)>, value: i64) -> bool
     }
 }
 
-/// Whether a type is that of whole constants.
-fn is_whole(of: Place) -> bool
-    ensures { result ≡ is_same_place of whole }
-{
-    of == WHOLE
-}
-
 /// Whether an operand is of an ordinal type: INTEGER, CARDINAL, CHAR, an enumeration or a subrange. A whole constant,
 /// which has neither type of numbers yet, counts as one. It waits for the type's row.
 #[tactic(auto, using(type_rules::proofs::Reading::reading, crate::proofs::TypesThere::there))]
@@ -68,36 +55,18 @@ pub fn is_ordinal<S: Scopes>(scopes: &mut S, site: &Site, x: Operand) -> Ask<boo
         (λ head. StopsAtType (S.state scopes.new) site.now.around.now (spec_operand_type x) head) }
 {
     let of = operand_type(&x);
-    if is_whole(of) {
+    if of == WHOLE {
         return Ask::Known(true);
     }
     let ends = known!(range_of(scopes, site.around, of));
     Ask::Known(ends.is_some())
 }
 
-/// Whether an operand is a string of one character, and another is none.
-fn may_be_char(x: &Operand, y: &Operand) -> bool
-    ensures { result ≡ (spec_one_char x.now && not (spec_string y.now)) }
-{
-    is_one_char(x) && !is_string(y)
-}
-
-/// Whether a base is CHAR.
-fn is_char(base: Place) -> bool
-    ensures { result ≡ is_same_place base character }
-{
-    base == CHARACTER
-}
-
 /// Whether an operand is a string of one character beside a CHAR that is no string, whose type has this base.
-fn is_beside_char(x: &Operand, y: &Operand, base: Place) -> bool
+pub(crate) fn is_beside_char(x: &Operand, y: &Operand, base: Place) -> bool
     ensures { (c : Context) → base ≡ base_type c y.now → result ≡ spec_beside_char c.scene x.now y.now }
 {
-    if may_be_char(x, y) {
-        is_char(base)
-    } else {
-        false
-    }
+    is_one_char(x) && !is_string(y) && base == CHARACTER
 }
 
 /// An operand as it is taken beside another, whose type has this base:
@@ -112,19 +81,6 @@ pub(crate) fn taken_beside(names: &Names, x: Operand, y: &Operand, base: Place) 
         as_char(names, x)
     } else {
         x
-    }
-}
-
-/// The base of an operand as it is taken beside another, where their types have these bases.
-pub(crate) fn base_beside(x: &Operand, left: Place, y: &Operand, right: Place) -> Place
-    ensures told { (c : Context) → HasStandardRows c → left ≡ base_type c x.now → right ≡ base_type c y.now
-        → result ≡ base_type c (spec_taken c.source c.scene x.now y.now) }
-    ensures there { (f : Frame) → IsThere f character → IsThere f left → IsThere f result }
-{
-    if is_beside_char(x, y, right) {
-        CHARACTER
-    } else {
-        left
     }
 }
 
@@ -161,7 +117,7 @@ pub fn compatible_pair<S: Scopes>(
 }
 
 /// Whether an operand is a whole constant beside a base that is INTEGER or CARDINAL.
-fn takes_base(x: Operand, other: Place) -> bool
+pub(crate) fn takes_base(x: Operand, other: Place) -> bool
     ensures { result ≡ spec_takes x other }
 {
     match x {
@@ -170,20 +126,19 @@ fn takes_base(x: Operand, other: Place) -> bool
     }
 }
 
-/// An operand beside a base with these ends: a whole constant takes that base, or is outside.
-fn number_within(
-    at: u32,
-    other: Place,
-    ends: Option<(i64, i64)>,
-    x: Operand,
-) -> Result<Operand, Fault>
-    ensures told { (c : Context) → spec_takes x other ≡ true → option_map (λ ends. range ends.0 ends.1) ends
-        ≡ spec_range c.scene other → judged c result ≡ spec_as_number c at other x }
+/// A whole constant takes the other operand's base, INTEGER or CARDINAL; outside its range it is refused.
+pub(crate) fn as_number(at: u32, other: Place, x: Operand) -> Result<Operand, Fault>
+    ensures told { (c : Context) → HasStandardRows c → judged c result ≡ spec_as_number c at other x }
     ensures there { (f : Frame) → IsThere f other → IsOperand f x → IfOk result (λ operand. IsOperand f operand) }
 {
     match x {
-        Operand::Constant(_, value) => {
-            if is_within(ends, value) {
+        Operand::Constant(_, value) if takes_base(x, other) => {
+            let ends = if other == INTEGER {
+                (LEAST_INTEGER, GREATEST_INTEGER)
+            } else {
+                (0, GREATEST_CARDINAL)
+            };
+            if is_within(Some(ends), value) {
                 Ok(Operand::Constant(other, value))
             } else {
                 fault!(at, OutOfRange)
@@ -191,36 +146,4 @@ fn number_within(
         }
         _ => Ok(x),
     }
-}
-
-/// The least and the greatest value of INTEGER or CARDINAL.
-fn number_ends(base: Place) -> (i64, i64)
-    ensures { (c : Context) → HasStandardRows c → is_number_base base ≡ true
-        → Some (range result.0 result.1) ≡ spec_range c.scene base }
-{
-    if base == INTEGER {
-        (LEAST_INTEGER, GREATEST_INTEGER)
-    } else {
-        (0, GREATEST_CARDINAL)
-    }
-}
-
-/// A whole constant takes the other operand's base, INTEGER or CARDINAL; outside its range it is refused.
-pub(crate) fn as_number(at: u32, other: Place, x: Operand) -> Result<Operand, Fault>
-    ensures told { (c : Context) → HasStandardRows c → judged c result ≡ spec_as_number c at other x }
-    ensures there { (f : Frame) → IsThere f other → IsOperand f x → IfOk result (λ operand. IsOperand f operand) }
-{
-    if takes_base(x, other) {
-        number_within(at, other, Some(number_ends(other)), x)
-    } else {
-        Ok(x)
-    }
-}
-
-/// The base of an operand with this base as it is taken as a number beside another.
-pub(crate) fn number_base(x: Operand, base: Place, other: Place) -> Place
-    ensures { (c : Context) (at : ℕ) (y : Taken) → HasStandardRows c → base ≡ base_type c x
-        → gives y ≡ spec_as_number c at other x → result ≡ base_type c y }
-{
-    if takes_base(x, other) { other } else { base }
 }

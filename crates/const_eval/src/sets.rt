@@ -1,12 +1,8 @@
 //! Sets between brackets: their type, and their elements.
-ghost use Rattle.std.specs.Prelude.{◌≡◌, IfOk, if◌then◌else◌, option_map, pos};
+ghost use Rattle.std.specs.Prelude.{◌≡◌, IfOk, option_map};
 ghost use Rattle.m2_base.specs.States.{Frame, Waits};
 ghost use Rattle.m2_base.specs.Standard.{broken};
-ghost use Rattle.m2_base.specs.Statics.Compatible.{is_compatible, taken_beside as spec_taken};
-ghost use Rattle.m2_base.specs.Statics.Contexts.{Context, refuse};
-ghost use Rattle.std.specs.Option.{IfSome};
-ghost use Rattle.const_eval.specs.Structures.{base_by, type_by};
-ghost use Rattle.m2_base.specs.Statics.Diagnostics.{not_assignable};
+ghost use Rattle.m2_base.specs.Statics.Contexts.{Context};
 ghost use Rattle.m2_base.specs.Statics.Sets.{checked_element as spec_checked, element_of as spec_element};
 ghost use Rattle.m2_base.specs.Statics.Sets.{no_elements as spec_no_elements, set_base as spec_base};
 ghost use Rattle.m2_base.specs.Statics.Sets.{set_type_of as spec_set_type};
@@ -27,49 +23,6 @@ use crate::structures::{is_broken, set_row};
 use m2_base::{Ask, Diagnostic, Operand, Place, Scopes, Site};
 use type_rules::{BROKEN, range_of};
 
-/// The type of a set's row, or what is refused where a type has none.
-fn set_type(at: u32, row: Option<(Place, Place)>) -> Result<Place, Fault>
-    ensures told { (c : Context) → judged_or c broken result ≡ type_by c at row }
-    ensures there { (f : Frame) → IfSome row (λ row. IsThere f row.0) → IfOk result (λ of. IsThere f of) }
-{
-    match row {
-        Some((place, _)) => Ok(place),
-        None => fault!(at, WrongIndex),
-    }
-}
-
-/// The base in a set's row; where there is none, the type of parts in error.
-fn base_in_row(row: Option<(Place, Place)>) -> Place
-    ensures told { result ≡ base_by row }
-    ensures there { (f : Frame) → IfSome row (λ row. IsThere f row.1) → IsThere f broken → IsThere f result }
-{
-    match row {
-        Some((_, base)) => base,
-        None => BROKEN,
-    }
-}
-
-/// The type before the brackets of a set, which is named.
-#[tactic(auto, using(type_rules::proofs::Reading::reading, crate::proofs::TypesThere::there))]
-fn named_set_type<S: Scopes>(
-    scopes: &mut S,
-    site: &Site,
-    at: u32,
-    of: Place,
-) -> Ask<Result<Place, Fault>>
-    requires suits { SuitsSite (S.state scopes.old).frame site.now }
-    requires of { IsThere (S.state scopes.old).frame of }
-    ensures reads { Reads (S.state scopes.old) (S.state scopes.new) }
-    ensures waits { WhereWaiting result (λ head. Waits (S.state scopes.old) (S.state scopes.new) head) }
-    ensures told { WhereTold (S.state scopes.old).frame (λ made.
-        WhereKnown result (λ given. let c = context_of (S.state scopes.old).frame made site.now in
-        judged_or c broken given ≡ spec_set_type c at (Operand.NamedType of))) }
-    ensures there { WhereKnown result (λ given. IfOk given (λ of. IsThere (S.state scopes.old).frame of)) }
-    ensures stops { WhereWaiting result (λ head. StopsAtType (S.state scopes.new) site.now.around.now of head) }
-{
-    Ask::Known(set_type(at, known!(set_row(scopes, site.around, of))))
-}
-
 /// Judges what stands before the brackets of a set, an operand whose first token is `at`: the set type that it names.
 /// What is no type, or no set type, is a fault; what is in error gives `BROKEN`. It waits for the type's row.
 #[tactic(auto, using(type_rules::proofs::Reading::reading, crate::proofs::TypesThere::there))]
@@ -89,7 +42,10 @@ pub fn set_type_of<S: Scopes>(
     ensures there { WhereKnown result (λ given. IfOk given (λ of. IsThere (S.state scopes.old).frame of)) }
 {
     match x {
-        Operand::NamedType(of) => named_set_type(scopes, site, at, of),
+        Operand::NamedType(of) => match known!(set_row(scopes, site.around, of)) {
+            Some((place, _)) => Ask::Known(Ok(place)),
+            None => Ask::Known(fault!(at, WrongIndex)),
+        },
         Operand::InError => Ask::Known(Ok(BROKEN)),
         _ => Ask::Known(fault!(at, NotAType)),
     }
@@ -109,18 +65,9 @@ pub fn set_base<S: Scopes>(scopes: &mut S, site: &Site, of: Place) -> Ask<Place>
     ensures there { WhereKnown result (λ given. IsThere (S.state scopes.old).frame given) }
     ensures stops { WhereWaiting result (λ head. StopsAtType (S.state scopes.new) site.now.around.now of head) }
 {
-    Ask::Known(base_in_row(known!(set_row(scopes, site.around, of))))
-}
-
-/// The set of a type without elements; in error where its base is.
-fn empty_set(broken: bool, of: Place) -> Operand
-    ensures told { result ≡ (if broken then Operand.InError else Operand.Constant of (pos 0)) }
-    ensures there { (f : Frame) → IsThere f of → IsOperand f result }
-{
-    if broken {
-        Operand::InError
-    } else {
-        Operand::Constant(of, 0)
+    match known!(set_row(scopes, site.around, of)) {
+        Some((_, base)) => Ask::Known(base),
+        None => Ask::Known(BROKEN),
     }
 }
 
@@ -138,8 +85,11 @@ pub fn no_elements<S: Scopes>(scopes: &mut S, site: &Site, of: Place) -> Ask<Ope
     ensures there { WhereKnown result (λ given. IsOperand (S.state scopes.old).frame given) }
 {
     let base = known!(set_base(scopes, site, of));
-    let broken = known!(is_broken(scopes, site.around, base));
-    Ask::Known(empty_set(broken, of))
+    if known!(is_broken(scopes, site.around, base)) {
+        Ask::Known(Operand::InError)
+    } else {
+        Ask::Known(Operand::Constant(of, 0))
+    }
 }
 
 /// An element of a base with these ends: a constant outside them is refused.
@@ -157,55 +107,6 @@ fn element_within(at: u32, ends: Option<(i64, i64)>, x: Operand) -> Result<Opera
             }
         }
         _ => Ok(x),
-    }
-}
-
-/// A constant element outside the base's range is refused.
-#[tactic(auto, using(type_rules::proofs::Reading::reading, crate::proofs::TypesThere::there))]
-fn checked_element<S: Scopes>(
-    scopes: &mut S,
-    site: &Site,
-    base: Place,
-    at: u32,
-    x: Operand,
-) -> Ask<Result<Operand, Fault>>
-    requires suits { SuitsSite (S.state scopes.old).frame site.now }
-    requires base { IsThere (S.state scopes.old).frame base }
-    requires x { IsOperand (S.state scopes.old).frame x }
-    ensures reads { Reads (S.state scopes.old) (S.state scopes.new) }
-    ensures waits { WhereWaiting result (λ head. Waits (S.state scopes.old) (S.state scopes.new) head) }
-    ensures told { WhereTold (S.state scopes.old).frame (λ made.
-        WhereKnown result (λ given. let c = context_of (S.state scopes.old).frame made site.now in
-        judged c given ≡ spec_checked c base at x)) }
-    ensures there { WhereKnown result (λ given. IfOk given (λ operand. IsOperand (S.state scopes.old).frame operand)) }
-{
-    let ends = known!(range_of(scopes, site.around, base));
-    Ask::Known(element_within(at, ends, x))
-}
-
-/// An element as it is taken into a set whose base isn't in error.
-#[tactic(auto, using(type_rules::proofs::Reading::reading, crate::proofs::TypesThere::there))]
-fn taken_element<S: Scopes>(
-    scopes: &mut S,
-    site: &Site,
-    base: Place,
-    at: u32,
-    x: Operand,
-) -> Ask<Result<Operand, Fault>>
-    requires suits { SuitsSite (S.state scopes.old).frame site.now }
-    requires base { IsThere (S.state scopes.old).frame base }
-    requires x { IsOperand (S.state scopes.old).frame x }
-    ensures reads { Reads (S.state scopes.old) (S.state scopes.new) }
-    ensures waits { WhereWaiting result (λ head. Waits (S.state scopes.old) (S.state scopes.new) head) }
-    ensures told { WhereTold (S.state scopes.old).frame (λ made.
-        WhereKnown result (λ given. let c = context_of (S.state scopes.old).frame made site.now in
-        judged c given ≡ (if is_compatible c.scene x (Operand.Computed base) then spec_checked c base at
-        (spec_taken c.source c.scene x (Operand.Computed base)) else refuse c at not_assignable Operand.InError))) }
-    ensures there { WhereKnown result (λ given. IfOk given (λ operand. IsOperand (S.state scopes.old).frame operand)) }
-{
-    match known!(compatible_pair(scopes, site, x, Operand::Computed(base))) {
-        Some(pair) => checked_element(scopes, site, base, at, pair.0),
-        None => Ask::Known(fault!(at, NotAssignable)),
     }
 }
 
@@ -232,12 +133,17 @@ pub fn element_of<S: Scopes>(
     if is_bad(x) {
         return Ask::Known(Ok(x));
     }
-    let broken = known!(is_broken(scopes, site.around, base));
-    if broken {
+    if known!(is_broken(scopes, site.around, base)) {
         return Ask::Known(Ok(Operand::InError));
     }
     if is_procedure(x) {
         return Ask::Known(fault!(at, NotAssignable));
     }
-    taken_element(scopes, site, base, at, x)
+    match known!(compatible_pair(scopes, site, x, Operand::Computed(base))) {
+        Some(pair) => {
+            let ends = known!(range_of(scopes, site.around, base));
+            Ask::Known(element_within(at, ends, pair.0))
+        }
+        None => Ask::Known(fault!(at, NotAssignable)),
+    }
 }

@@ -4,7 +4,7 @@ ghost use Rattle.std.specs.Option.{IfSome};
 ghost use Rattle.m2_base.specs.Standard.{broken};
 ghost use Rattle.m2_base.specs.States.{Waits};
 ghost use Rattle.m2_base.specs.Statics.Types.{is_broken as spec_broken, kind_of, stands_for};
-ghost use Rattle.const_eval.specs.Structures.{are_alike as spec_alike, set_row_by};
+ghost use Rattle.const_eval.specs.Structures.{set_row_by};
 ghost use Rattle.type_rules.specs.Asks.{Reads, WhereKnown, WhereWaiting};
 ghost use Rattle.type_rules.specs.Scenes.{Suits, IsThere, scene_of, WhereTold};
 ghost use Rattle.type_rules.specs.Standing.{StopsAtEither, StopsAtType};
@@ -27,26 +27,6 @@ pub fn is_broken<S: Scopes>(scopes: &mut S, around: &Around, of: Place) -> Ask<b
     same(scopes, around, of, BROKEN)
 }
 
-/// The place and the base of a set's row.
-pub(crate) fn set_by(place: Place, meaning: RowMeaning) -> Option<(Place, Place)>
-    ensures { result ≡ set_row_by place meaning }
-{
-    match meaning {
-        RowMeaning::Set(base) => Some((place, base)),
-        _ => None,
-    }
-}
-
-/// Whether two sets' rows are one.
-pub(crate) fn are_alike(x: Option<(Place, Place)>, y: Option<(Place, Place)>) -> bool
-    ensures { result ≡ spec_alike x y }
-{
-    match (x, y) {
-        (Some((left, _)), Some((right, _))) => left == right,
-        _ => false,
-    }
-}
-
 /// The place and the base of the row of a set type; none where a type is no set.
 #[tactic(auto, using(type_rules::proofs::Reading::reading))]
 pub(crate) fn set_row<S: Scopes>(
@@ -65,6 +45,8 @@ pub(crate) fn set_row<S: Scopes>(
         IfSome row (λ row. IsThere (S.state scopes.old).frame row.0 × IsThere (S.state scopes.old).frame row.1)) }
     ensures stops { WhereWaiting result (λ head. StopsAtType (S.state scopes.new) around.now of head) }
 {
-    let (place, meaning) = known!(stand(scopes, around, of));
-    Ask::Known(set_by(place, meaning))
+    match known!(stand(scopes, around, of)) {
+        (place, RowMeaning::Set(base)) => Ask::Known(Some((place, base))),
+        _ => Ask::Known(None),
+    }
 }

@@ -1,46 +1,85 @@
 use Rattle.std.proofs.Common.{◌∙◌, sym, ap, subst}
 use Rattle.m2_base.specs.Gives.{gives}
+use Rattle.m2_base.specs.Statics.Constants.{value_wanted}
+use Rattle.m2_base.specs.Statics.Functions.{val_of}
 use Rattle.m2_base.specs.declared.operands.Operand.TheVariants.{InError}
-use Rattle.const_eval.specs.Calls.{call_kind, call_with, called}
+use Rattle.const_eval.specs.Calls.{call_kind, call_with, called, of_value}
 use Rattle.const_eval.specs.Sites.{IsCall, IsOperand}
 use Rattle.const_eval.specs.declared.calls.Call.{Call}
-use Rattle.const_eval.proofs.Analysing.{described, value_everywhere}
+use Rattle.const_eval.proofs.Analysing.{and_after, described, failed, value_everywhere, waiting}
 use Rattle.const_eval.proofs.CallKinds.{call_there, other_called}
 use Rattle.const_eval.proofs.calls.call_with.Goals as goal
-
-pub call_of_value-requires-clause-arg : goal.call_of_value-requires-clause-arg
-call_of_value-requires-clause-arg g c =
-    let f = (g.S.Scopes.state c.args.scopes.now).frame in
-    subst (λ (call : Call). IsCall f call) (sym c.call_kind.ensures ∙ c.in-OfValue.is) (call_there f c.standard_procedure.result c.args.args.shape c.requires.args)
 
 pub of_type_noted-requires-clause-x : goal.of_type_noted-requires-clause-x
 of_type_noted-requires-clause-x g c =
     let f = (g.S.Scopes.state c.args.scopes.now).frame in
     subst (λ (call : Call). IsCall f call) (sym c.call_kind.ensures ∙ c.in-OfType.is) (call_there f c.standard_procedure.result c.args.args.shape c.requires.args)
 
-pub call_of_type_and_value-requires-clause-of : goal.call_of_type_and_value-requires-clause-of
-call_of_type_and_value-requires-clause-of g c =
+pub returns-in-DontKnowYet : goal.returns-in-DontKnowYet
+returns-in-DontKnowYet g c =
     let f = (g.S.Scopes.state c.args.scopes.now).frame in
-    (subst (λ (call : Call). IsCall f call) (sym c.call_kind.ensures ∙ c.in-OfTypeAndValue.is) (call_there f c.standard_procedure.result c.args.args.shape c.requires.args)).0
+    let there = subst (λ (call : Call). IsCall f call) (sym c.call_kind.ensures ∙ c.in-OfValue.is) (call_there f c.standard_procedure.result c.args.args.shape c.requires.args) in
+    waiting (rw c.in-DontKnowYet.is at c.in-Ok.ensures (g.S.Scopes.state c.args.scopes.now) there)
 
-pub call_of_type_and_value-requires-clause-arg : goal.call_of_type_and_value-requires-clause-arg
-call_of_type_and_value-requires-clause-arg g c =
+pub returns-in-Err : goal.returns-in-Err
+returns-in-Err g c =
     let f = (g.S.Scopes.state c.args.scopes.now).frame in
-    (subst (λ (call : Call). IsCall f call) (sym c.call_kind.ensures ∙ c.in-OfTypeAndValue.is) (call_there f c.standard_procedure.result c.args.args.shape c.requires.args)).1
+    let there = subst (λ (call : Call). IsCall f call) (sym c.call_kind.ensures ∙ c.in-OfValue.is) (call_there f c.standard_procedure.result c.args.args.shape c.requires.args) in
+    failed (c.in-Err.ensures (g.S.Scopes.state c.args.scopes.now) there) _
 
-pub returns-in-OfValue : goal.returns-in-OfValue
-returns-in-OfValue g c =
-    described c.call_of_value.result c.call_of_value.ensures (λ k. ap (called k c.args.to.at c.args.args.spoilt) (sym c.in-OfValue.is ∙ c.call_kind.ensures ∙ ap (λ b. call_kind b c.args.args.shape) c.standard_procedure.ensures)
+pub of_value_noted-requires-clause-x : goal.of_value_noted-requires-clause-x
+of_value_noted-requires-clause-x g c =
+    let f = (g.S.Scopes.state c.args.scopes.now).frame in
+    let there = subst (λ (call : Call). IsCall f call) (sym c.call_kind.ensures ∙ c.in-OfValue.is) (call_there f c.standard_procedure.result c.args.args.shape c.requires.args) in
+    (rw c.in-Known.is at c.in-Ok.ensures (g.S.Scopes.state c.args.scopes.now) there).there
+
+pub returns-in-Known : goal.returns-in-Known
+returns-in-Known g c =
+    let f = (g.S.Scopes.state c.args.scopes.now).frame in
+    let there = subst (λ (call : Call). IsCall f call) (sym c.call_kind.ensures ∙ c.in-OfValue.is) (call_there f c.standard_procedure.result c.args.args.shape c.requires.args) in
+    described c.of_value_noted.result
+    (and_after (λ k. value_wanted k c.in-OfValue.arg.at c.in-OfValue.arg.operand) (λ v k. of_value k c.in-OfValue.function c.in-OfValue.arg.at v) c.of_value_noted.result
+    (rw c.in-Known.is at c.in-Ok.ensures (g.S.Scopes.state c.args.scopes.now) there) c.of_value_noted.ensures)
+    (λ k. ap (called k c.args.to.at c.args.args.spoilt) (sym c.in-OfValue.is ∙ c.call_kind.ensures ∙ ap (λ b. call_kind b c.args.args.shape) c.standard_procedure.ensures)
+    ∙ ap (λ o. call_with k c.args.to.at o c.args.args) (sym c.in-StandardProcedure.is))
+
+pub returns-in-DontKnowYet-asked : goal.returns-in-DontKnowYet-asked
+returns-in-DontKnowYet-asked g c =
+    let f = (g.S.Scopes.state c.args.scopes.now).frame in
+    let there = subst (λ (call : Call). IsCall f call) (sym c.call_kind.ensures ∙ c.in-OfTypeAndValue.is) (call_there f c.standard_procedure.result c.args.args.shape c.requires.args) in
+    waiting (rw c.in-DontKnowYet-asked.is at c.in-Ok-value_noted.ensures (g.S.Scopes.state c.args.scopes.now) there.1)
+
+pub returns-in-Err-value_noted : goal.returns-in-Err-value_noted
+returns-in-Err-value_noted g c =
+    let f = (g.S.Scopes.state c.args.scopes.now).frame in
+    let there = subst (λ (call : Call). IsCall f call) (sym c.call_kind.ensures ∙ c.in-OfTypeAndValue.is) (call_there f c.standard_procedure.result c.args.args.shape c.requires.args) in
+    failed (c.in-Err-value_noted.ensures (g.S.Scopes.state c.args.scopes.now) there.1) _
+
+pub val_of_operand-requires-clause-of : goal.val_of_operand-requires-clause-of
+val_of_operand-requires-clause-of g c =
+    let f = (g.S.Scopes.state c.args.scopes.now).frame in
+    let there = subst (λ (call : Call). IsCall f call) (sym c.call_kind.ensures ∙ c.in-OfTypeAndValue.is) (call_there f c.standard_procedure.result c.args.args.shape c.requires.args) in
+    there.0
+
+pub val_of_operand-requires-clause-x : goal.val_of_operand-requires-clause-x
+val_of_operand-requires-clause-x g c =
+    let f = (g.S.Scopes.state c.args.scopes.now).frame in
+    let there = subst (λ (call : Call). IsCall f call) (sym c.call_kind.ensures ∙ c.in-OfTypeAndValue.is) (call_there f c.standard_procedure.result c.args.args.shape c.requires.args) in
+    (rw c.in-Known-asked.is at c.in-Ok-value_noted.ensures (g.S.Scopes.state c.args.scopes.now) there.1).there
+
+pub returns-in-Known-asked : goal.returns-in-Known-asked
+returns-in-Known-asked g c =
+    let f = (g.S.Scopes.state c.args.scopes.now).frame in
+    let there = subst (λ (call : Call). IsCall f call) (sym c.call_kind.ensures ∙ c.in-OfTypeAndValue.is) (call_there f c.standard_procedure.result c.args.args.shape c.requires.args) in
+    described c.val_of_operand.result
+    (and_after (λ k. value_wanted k c.in-OfTypeAndValue.arg.at c.in-OfTypeAndValue.arg.operand) (λ v k. val_of k c.in-OfTypeAndValue.of.at c.in-OfTypeAndValue.of.operand c.in-OfTypeAndValue.arg.at v) c.val_of_operand.result
+    (rw c.in-Known-asked.is at c.in-Ok-value_noted.ensures (g.S.Scopes.state c.args.scopes.now) there.1) c.val_of_operand.ensures)
+    (λ k. ap (called k c.args.to.at c.args.args.spoilt) (sym c.in-OfTypeAndValue.is ∙ c.call_kind.ensures ∙ ap (λ b. call_kind b c.args.args.shape) c.standard_procedure.ensures)
     ∙ ap (λ o. call_with k c.args.to.at o c.args.args) (sym c.in-StandardProcedure.is))
 
 pub returns-in-OfType : goal.returns-in-OfType
 returns-in-OfType g c =
     described c.of_type_noted.result c.of_type_noted.ensures (λ k. ap (called k c.args.to.at c.args.args.spoilt) (sym c.in-OfType.is ∙ c.call_kind.ensures ∙ ap (λ b. call_kind b c.args.args.shape) c.standard_procedure.ensures)
-    ∙ ap (λ o. call_with k c.args.to.at o c.args.args) (sym c.in-StandardProcedure.is))
-
-pub returns-in-OfTypeAndValue : goal.returns-in-OfTypeAndValue
-returns-in-OfTypeAndValue g c =
-    described c.call_of_type_and_value.result c.call_of_type_and_value.ensures (λ k. ap (called k c.args.to.at c.args.args.spoilt) (sym c.in-OfTypeAndValue.is ∙ c.call_kind.ensures ∙ ap (λ b. call_kind b c.args.args.shape) c.standard_procedure.ensures)
     ∙ ap (λ o. call_with k c.args.to.at o c.args.args) (sym c.in-StandardProcedure.is))
 
 pub returns-in-OfNone : goal.returns-in-OfNone

@@ -1,9 +1,25 @@
 use Rattle.const_eval.specs.Calls.{of_value}
+use Rattle.const_eval.specs.declared.calls.ValueFunction.TheVariants.{Abs, Cap, Chr, Odd, Ord}
 use Rattle.const_eval.proofs.Analysing.{noted_operand}
+use Rattle.const_eval.proofs.calls.of_value_noted.Goals.{in-Abs, in-Cap, in-Chr, in-Odd, in-Ord}
 use Rattle.const_eval.proofs.calls.of_value_noted.Goals as goal
 
 pub returns : goal.returns
 returns g c =
-    noted_operand c.args.notes.now c.note.new.notes c.args.site.now c.of_value-given.result c.note.result (λ k. of_value k c.args.function c.args.x.at c.args.x.operand)
-    c.note.ensures.answers c.note.ensures.diags c.note.ensures.waits c.note.ensures.there c.note.ensures.told
-    c.of_value-given.ensures.reads c.of_value-given.ensures.waits c.of_value-given.ensures.told c.of_value-given.ensures.there
+    elim c.match-function.branch [
+      | in-Abs w ↦ let noted = rw w.given-is at c.note.ensures in
+          rw (w.scopes-is, w.in-Abs.is) (noted_operand c.args.notes.now c.note.new.notes c.args.site.now w.abs_of-given.result c.note.result (λ k. of_value k Abs c.args.x.at c.args.x.operand)
+          noted.answers noted.diags noted.waits noted.there noted.told w.abs_of-given.ensures.reads w.abs_of-given.ensures.waits w.abs_of-given.ensures.told w.abs_of-given.ensures.there)
+      | in-Cap w ↦ let noted = rw w.given-is at c.note.ensures in
+          rw (w.scopes-is, w.in-Cap.is) (noted_operand c.args.notes.now c.note.new.notes c.args.site.now w.cap_of-given.result c.note.result (λ k. of_value k Cap c.args.x.at c.args.x.operand)
+          noted.answers noted.diags noted.waits noted.there noted.told w.cap_of-given.ensures.reads w.cap_of-given.ensures.waits w.cap_of-given.ensures.told w.cap_of-given.ensures.there)
+      | in-Chr w ↦ let noted = rw w.given-is at c.note.ensures in
+          rw (w.scopes-is, w.in-Chr.is) (noted_operand c.args.notes.now c.note.new.notes c.args.site.now w.chr_of-given.result c.note.result (λ k. of_value k Chr c.args.x.at c.args.x.operand)
+          noted.answers noted.diags noted.waits noted.there noted.told w.chr_of-given.ensures.reads w.chr_of-given.ensures.waits w.chr_of-given.ensures.told w.chr_of-given.ensures.there)
+      | in-Odd w ↦ let noted = rw w.given-is at c.note.ensures in
+          rw (w.scopes-is, w.in-Odd.is) (noted_operand c.args.notes.now c.note.new.notes c.args.site.now w.odd_of-given.result c.note.result (λ k. of_value k Odd c.args.x.at c.args.x.operand)
+          noted.answers noted.diags noted.waits noted.there noted.told w.odd_of-given.ensures.reads w.odd_of-given.ensures.waits w.odd_of-given.ensures.told w.odd_of-given.ensures.there)
+      | in-Ord w ↦ let noted = rw w.given-is at c.note.ensures in
+          rw (w.scopes-is, w.in-Ord.is) (noted_operand c.args.notes.now c.note.new.notes c.args.site.now w.ord_of-given.result c.note.result (λ k. of_value k Ord c.args.x.at c.args.x.operand)
+          noted.answers noted.diags noted.waits noted.there noted.told w.ord_of-given.ensures.reads w.ord_of-given.ensures.waits w.ord_of-given.ensures.told w.ord_of-given.ensures.there)
+    ]

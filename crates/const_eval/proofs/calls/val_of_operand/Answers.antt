@@ -1,27 +1,50 @@
-use Rattle.std.proofs.Common.{sym, subst}
 use Rattle.m2_base.specs.Gives.{and_then}
-use Rattle.m2_base.specs.States.{Frame}
 use Rattle.m2_base.specs.Statics.Functions.{ordinal_argument, ordinal_type_argument, val_as}
-use Rattle.type_rules.specs.Scenes.{IsThere}
-use Rattle.type_rules.specs.Sites.{SuitsSite}
-use Rattle.const_eval.specs.Sites.{IsOperand}
-use Rattle.const_eval.proofs.Analysing.{and_after, waiting}
+use Rattle.const_eval.proofs.Analysing.{and_after, failed, noted_operand, noted_type, waiting}
+use Rattle.const_eval.proofs.Later.{IsOperand_read, SuitsSite_read}
+use Rattle.const_eval.proofs.Sequences.{stands_after}
+use Rattle.const_eval.proofs.TypesThere.{standard_there}
 use Rattle.const_eval.proofs.calls.val_of_operand.Goals as goal
 
 pub returns-in-DontKnowYet : goal.returns-in-DontKnowYet
-returns-in-DontKnowYet g c = waiting (rw c.in-DontKnowYet.is at c.in-Ok.ensures)
+returns-in-DontKnowYet g c =
+    let first = noted_type c.args.notes.now c.note_type.new.notes c.args.site.now c.ordinal_type_argument-asked.result c.note_type.result (λ k. ordinal_type_argument k c.args.of.at c.args.of.operand)
+    c.note_type.ensures.answers c.note_type.ensures.diags c.note_type.ensures.waits c.note_type.ensures.there c.note_type.ensures.told
+    (standard_there c.requires.suits.around 10)
+    c.ordinal_type_argument-asked.ensures.reads c.ordinal_type_argument-asked.ensures.waits c.ordinal_type_argument-asked.ensures.told c.ordinal_type_argument-asked.ensures.there in
+    waiting (rw (c.in-Ok.is, c.in-DontKnowYet.is) at first)
 
-pub val_noted-requires-clause-suits : goal.val_noted-requires-clause-suits
-val_noted-requires-clause-suits g c = subst (λ (f : Frame). SuitsSite f c.args.site.now) (sym c.ordinal_type_noted.ensures.works.keeps.frame) c.requires.suits
+pub returns-in-Err : goal.returns-in-Err
+returns-in-Err g c =
+    let first = noted_type c.args.notes.now c.note_type.new.notes c.args.site.now c.ordinal_type_argument-asked.result c.note_type.result (λ k. ordinal_type_argument k c.args.of.at c.args.of.operand)
+    c.note_type.ensures.answers c.note_type.ensures.diags c.note_type.ensures.waits c.note_type.ensures.there c.note_type.ensures.told
+    (standard_there c.requires.suits.around 10)
+    c.ordinal_type_argument-asked.ensures.reads c.ordinal_type_argument-asked.ensures.waits c.ordinal_type_argument-asked.ensures.told c.ordinal_type_argument-asked.ensures.there in
+    failed (rw c.in-Err.is at first) _
 
-pub val_noted-requires-clause-of : goal.val_noted-requires-clause-of
-val_noted-requires-clause-of g c =
-    subst (λ (f : Frame). IsThere f c.in-Known.value) (sym c.ordinal_type_noted.ensures.works.keeps.frame) (rw c.in-Known.is at c.in-Ok.ensures).there
+pub val_of-given-requires-clause-suits : goal.val_of-given-requires-clause-suits
+val_of-given-requires-clause-suits g c = SuitsSite_read c.ordinal_type_argument-asked.ensures.reads c.requires.suits
 
-pub val_noted-requires-clause-x : goal.val_noted-requires-clause-x
-val_noted-requires-clause-x g c = subst (λ (f : Frame). IsOperand f c.args.x.operand) (sym c.ordinal_type_noted.ensures.works.keeps.frame) c.requires.x
+pub val_of-given-requires-clause-of : goal.val_of-given-requires-clause-of
+val_of-given-requires-clause-of g c =
+    let first = noted_type c.args.notes.now c.note_type.new.notes c.args.site.now c.ordinal_type_argument-asked.result c.note_type.result (λ k. ordinal_type_argument k c.args.of.at c.args.of.operand)
+    c.note_type.ensures.answers c.note_type.ensures.diags c.note_type.ensures.waits c.note_type.ensures.there c.note_type.ensures.told
+    (standard_there c.requires.suits.around 10)
+    c.ordinal_type_argument-asked.ensures.reads c.ordinal_type_argument-asked.ensures.waits c.ordinal_type_argument-asked.ensures.told c.ordinal_type_argument-asked.ensures.there in
+    stands_after (rw (c.in-Ok.is, c.in-Known.is) at first)
+
+pub val_of-given-requires-clause-x : goal.val_of-given-requires-clause-x
+val_of-given-requires-clause-x g c = IsOperand_read c.args.x.operand c.ordinal_type_argument-asked.ensures.reads c.requires.x
 
 pub returns : goal.returns
 returns g c =
-    and_after (λ k. ordinal_type_argument k c.args.of.at c.args.of.operand) (λ t k. and_then (ordinal_argument k c.args.x.at c.args.x.operand) (λ v. val_as k c.args.x.at t v)) c.val_noted.result
-    (rw c.in-Known.is at c.in-Ok.ensures) c.val_noted.ensures
+    let first = noted_type c.args.notes.now c.note_type.new.notes c.args.site.now c.ordinal_type_argument-asked.result c.note_type.result (λ k. ordinal_type_argument k c.args.of.at c.args.of.operand)
+    c.note_type.ensures.answers c.note_type.ensures.diags c.note_type.ensures.waits c.note_type.ensures.there c.note_type.ensures.told
+    (standard_there c.requires.suits.around 10)
+    c.ordinal_type_argument-asked.ensures.reads c.ordinal_type_argument-asked.ensures.waits c.ordinal_type_argument-asked.ensures.told c.ordinal_type_argument-asked.ensures.there in
+    and_after (λ k. ordinal_type_argument k c.args.of.at c.args.of.operand) (λ t k. and_then (ordinal_argument k c.args.x.at c.args.x.operand) (λ v. val_as k c.args.x.at t v)) c.note.result
+    (rw (c.in-Ok.is, c.in-Known.is) at first)
+    (noted_operand c.note_type.new.notes c.note.new.notes c.args.site.now c.val_of-given.result c.note.result
+    (λ k. and_then (ordinal_argument k c.args.x.at c.args.x.operand) (λ v. val_as k c.args.x.at c.in-Known.value v))
+    c.note.ensures.answers c.note.ensures.diags c.note.ensures.waits c.note.ensures.there c.note.ensures.told
+    c.val_of-given.ensures.reads c.val_of-given.ensures.waits c.val_of-given.ensures.told c.val_of-given.ensures.there)

@@ -36,13 +36,13 @@ no_text f o t v e other = subst (λ (u : Operand). IsNamedText f u) (sym e) (λ 
 named : (f : Frame) (o : Operand) (n l : ℕ) → o ≡ StringConstant n l → IsNamedText f o
 named f o n l e = subst (λ (u : Operand). IsNamedText f u) (sym e) tt
 
-pub returns-then-is_text : goal.returns-then-is_text
-returns-then-is_text c now h = record { works = Works-refl now c.args.notes.now; waits = tt; told = λ made in_hand told of_site. tt; there = tt }
+pub returns-then-eq : goal.returns-then-eq
+returns-then-eq c now h = record { works = Works-refl now c.args.notes.now; waits = tt; told = λ made in_hand told of_site. tt; there = tt }
 
-pub returns-else-is_text : goal.returns-else-is_text
-returns-else-is_text c now h =
+pub returns-else-eq : goal.returns-else-eq
+returns-else-eq c now h =
     value_everywhere now c.args.notes.now c.args.site.now (Some (Constant c.in-Constant.of c.in-Constant.field-1)) MayStand (λ k. constant_or_refused k c.args.at c.args.operand)
-    (subst (λ (u : Operand). IsOperand now.frame u) c.in-Constant.is h, no_text now.frame (Constant c.in-Constant.of c.in-Constant.field-1) c.in-Constant.of c.in-Constant.field-1 refl (sym c.is_text.ensures ∙ c.if-is_text.false))
+    (subst (λ (u : Operand). IsOperand now.frame u) c.in-Constant.is h, no_text now.frame (Constant c.in-Constant.of c.in-Constant.field-1) c.in-Constant.of c.in-Constant.field-1 refl (sym c.eq.ensures ∙ c.if-eq.false))
     (λ k. ap (constant_or_refused k c.args.at) (sym c.in-Constant.is))
 
 pub returns-in-StringConstant : goal.returns-in-StringConstant

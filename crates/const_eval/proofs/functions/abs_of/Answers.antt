@@ -1,34 +1,49 @@
-use Rattle.std.proofs.Common.{ap}
+use Rattle.std.proofs.Common.{◌∙◌, ap, subst, sym}
 use Rattle.m2_base.specs.Gives.{and_then}
 use Rattle.m2_base.specs.Statics.Folding.{number_kind, number_type}
 use Rattle.m2_base.specs.Statics.Functions.{absolute}
 use Rattle.m2_base.specs.Statics.Operations.{base_type}
+use Rattle.m2_base.specs.Statics.Types.{base_of}
+use Rattle.m2_base.specs.declared.rows.Place.{Place}
+use Rattle.type_rules.specs.Scenes.{IsThere}
 use Rattle.type_rules.specs.Sites.{context_of}
-use Rattle.type_rules.proofs.Later.{Waits_asked}
-use Rattle.type_rules.proofs.Reading.{Reads-trans}
-use Rattle.const_eval.proofs.Judging.{after_ok, judged_as}
-use Rattle.const_eval.proofs.Later.{IsOperand_given, SuitsSite_read}
+use Rattle.type_rules.proofs.Later.{Suits_read}
+use Rattle.type_rules.proofs.Reading.{Reads-trans, Waits_read}
+use Rattle.const_eval.proofs.Judging.{after_ok, told_first}
+use Rattle.const_eval.proofs.Later.{IsOperand_read}
+use Rattle.const_eval.proofs.TypesThere.{small_constant, type_there}
 use Rattle.const_eval.proofs.functions.abs_of.Goals as goal
 
-pub number_absolute-requires-clause-suits : goal.number_absolute-requires-clause-suits
-number_absolute-requires-clause-suits g c = SuitsSite_read c.in-Known.ensures.reads c.requires.suits
+pub base_of-requires-clause-suits : goal.base_of-requires-clause-suits
+base_of-requires-clause-suits g c = Suits_read c.in-Known.ensures.reads c.requires.suits.around
 
-pub returns-in-Ok-clause-reads : goal.returns-in-Ok-clause-reads
-returns-in-Ok-clause-reads g c = Reads-trans c.in-Known.ensures.reads c.number_absolute.ensures.reads
+pub base_of-requires-clause-there : goal.base_of-requires-clause-there
+base_of-requires-clause-there g c =
+    subst (λ (t : Place). IsThere (g.S.Scopes.state c.number_argument.new.scopes).frame t) (sym c.operand_type.ensures)
+    (type_there (Suits_read c.in-Known.ensures.reads c.requires.suits.around) c.in-Ok.x (IsOperand_read c.in-Ok.x c.in-Known.ensures.reads (rw c.in-Ok.is at c.in-Known.ensures.there)))
 
-pub returns-in-Ok-clause-waits : goal.returns-in-Ok-clause-waits
-returns-in-Ok-clause-waits g c = Waits_asked c.number_absolute.result (g.S.Scopes.state c.number_absolute.new.scopes) c.in-Known.ensures.reads c.number_absolute.ensures.waits
+pub returns-in-DontKnowYet-base_of-clause-reads : goal.returns-in-DontKnowYet-base_of-clause-reads
+returns-in-DontKnowYet-base_of-clause-reads g c = Reads-trans c.in-Known.ensures.reads c.in-DontKnowYet-base_of.ensures.reads
 
-pub returns-in-Ok-clause-there : goal.returns-in-Ok-clause-there
-returns-in-Ok-clause-there g c = IsOperand_given c.number_absolute.result c.in-Known.ensures.reads c.number_absolute.ensures.there
+pub returns-in-DontKnowYet-base_of-clause-waits : goal.returns-in-DontKnowYet-base_of-clause-waits
+returns-in-DontKnowYet-base_of-clause-waits g c = Waits_read c.in-Known.ensures.reads c.in-DontKnowYet-base_of.ensures.waits
 
-pub returns-in-Ok-clause-told : goal.returns-in-Ok-clause-told
-returns-in-Ok-clause-told g c made in_hand told =
+pub absolute-requires : goal.absolute-requires
+absolute-requires g c = small_constant (g.S.Scopes.state c.args.scopes.now).frame c.in-Ok.x (rw c.in-Ok.is at c.in-Known.ensures.there)
+
+pub returns-clause-reads : goal.returns-clause-reads
+returns-clause-reads g c = Reads-trans c.in-Known.ensures.reads c.in-Known-base_of.ensures.reads
+
+pub returns-clause-told : goal.returns-clause-told
+returns-clause-told g c made in_hand told =
     let f = (g.S.Scopes.state c.args.scopes.now).frame in
     let s = c.args.site.now in
-    judged_as c.number_absolute.result f _ s (λ h rows. absolute (context_of h rows s) c.args.at (number_type (number_kind (base_type (context_of h rows s) c.in-Ok.x))) c.in-Ok.x) made _
-    c.in-Known.ensures.reads.keeps.frame c.number_absolute.ensures.told
-    (after_ok _ c.in-Ok.x (λ v. absolute (context_of f made s) c.args.at (number_type (number_kind (base_type (context_of f made s) v))) v) ((rw c.in-Ok.is at c.in-Known.ensures.told) made in_hand told)) in_hand told
+    let now = context_of f made s in
+    let base = told_first _ f _ (λ h rows. base_of (context_of h rows s).scene c.operand_type.result) c.in-Known.ensures.reads.keeps.frame c.in-Known-base_of.ensures.told made in_hand told in
+    c.absolute.ensures.told now
+    ∙ ap (λ t. absolute now c.args.at t c.in-Ok.x)
+    (c.number_type.ensures ∙ ap number_type (c.number_kind.ensures ∙ ap number_kind (base ∙ ap (base_of now.scene) c.operand_type.ensures)))
+    ∙ after_ok _ c.in-Ok.x (λ v. absolute now c.args.at (number_type (number_kind (base_type now v))) v) ((rw c.in-Ok.is at c.in-Known.ensures.told) made in_hand told)
 
 pub returns-in-Err-clause-told : goal.returns-in-Err-clause-told
 returns-in-Err-clause-told g c made in_hand told =

@@ -1,36 +1,70 @@
-use Rattle.std.proofs.Common.{◌∙◌, ap}
+use Rattle.std.proofs.Common.{◌∙◌, false, true, ap, sym}
 use Rattle.m2_base.specs.Gives.{and_then}
-use Rattle.m2_base.specs.Statics.Functions.{val_as}
+use Rattle.m2_base.specs.Statics.Functions.{converted, val_as}
+use Rattle.m2_base.specs.Statics.Types.{is_broken}
 use Rattle.type_rules.specs.Sites.{context_of}
-use Rattle.type_rules.proofs.Later.{IsThere_read, Waits_asked}
-use Rattle.type_rules.proofs.Reading.{Reads-trans}
-use Rattle.const_eval.proofs.Judging.{after_ok, judged_as}
-use Rattle.const_eval.proofs.Later.{IsOperand_given, SuitsSite_read}
+use Rattle.type_rules.proofs.Later.{IsThere_read, Suits_read, Waits_asked}
+use Rattle.type_rules.proofs.Reading.{Reads-trans, Waits_read}
+use Rattle.const_eval.proofs.FunctionArguments.{val_by}
+use Rattle.const_eval.proofs.Judging.{after_ok, judged_as, told_first}
+use Rattle.const_eval.proofs.Later.{IsOperand_given, IsOperand_read, SuitsSite_read}
 use Rattle.const_eval.proofs.TypeArguments.{val_refused}
 use Rattle.const_eval.proofs.functions.val_of.Goals as goal
 
-pub val_as-requires-clause-suits : goal.val_as-requires-clause-suits
-val_as-requires-clause-suits g c = SuitsSite_read c.in-Known.ensures.reads c.requires.suits
+pub is_broken-requires-clause-suits : goal.is_broken-requires-clause-suits
+is_broken-requires-clause-suits g c = Suits_read c.in-Known.ensures.reads c.requires.suits.around
 
-pub val_as-requires-clause-of : goal.val_as-requires-clause-of
-val_as-requires-clause-of g c = IsThere_read c.in-Known.ensures.reads c.requires.of
+pub is_broken-requires-clause-there : goal.is_broken-requires-clause-there
+is_broken-requires-clause-there g c = IsThere_read c.in-Known.ensures.reads c.requires.of
 
-pub returns-in-Ok-clause-reads : goal.returns-in-Ok-clause-reads
-returns-in-Ok-clause-reads g c = Reads-trans c.in-Known.ensures.reads c.val_as.ensures.reads
+pub returns-in-DontKnowYet-is_broken-clause-reads : goal.returns-in-DontKnowYet-is_broken-clause-reads
+returns-in-DontKnowYet-is_broken-clause-reads g c = Reads-trans c.in-Known.ensures.reads c.in-DontKnowYet-is_broken.ensures.reads
 
-pub returns-in-Ok-clause-waits : goal.returns-in-Ok-clause-waits
-returns-in-Ok-clause-waits g c = Waits_asked c.val_as.result (g.S.Scopes.state c.val_as.new.scopes) c.in-Known.ensures.reads c.val_as.ensures.waits
+pub returns-in-DontKnowYet-is_broken-clause-waits : goal.returns-in-DontKnowYet-is_broken-clause-waits
+returns-in-DontKnowYet-is_broken-clause-waits g c = Waits_read c.in-Known.ensures.reads c.in-DontKnowYet-is_broken.ensures.waits
 
-pub returns-in-Ok-clause-there : goal.returns-in-Ok-clause-there
-returns-in-Ok-clause-there g c = IsOperand_given c.val_as.result c.in-Known.ensures.reads c.val_as.ensures.there
+pub returns-then-value-clause-reads : goal.returns-then-value-clause-reads
+returns-then-value-clause-reads g c = Reads-trans c.in-Known.ensures.reads c.in-Known-is_broken.ensures.reads
 
-pub returns-in-Ok-clause-told : goal.returns-in-Ok-clause-told
-returns-in-Ok-clause-told g c made in_hand told =
+pub returns-then-value-clause-told : goal.returns-then-value-clause-told
+returns-then-value-clause-told g c made in_hand told =
     let f = (g.S.Scopes.state c.args.scopes.now).frame in
     let s = c.args.site.now in
-    judged_as c.val_as.result f _ s (λ h rows. val_as (context_of h rows s) c.args.at c.args.of c.in-Ok.x) made _
-    c.in-Known.ensures.reads.keeps.frame c.val_as.ensures.told
-    (after_ok _ c.in-Ok.x (λ v. val_as (context_of f made s) c.args.at c.args.of v) ((rw c.in-Ok.is at c.in-Known.ensures.told) made in_hand told)) in_hand told
+    let now = context_of f made s in
+    let bad = told_first _ f _ (λ h rows. is_broken (context_of h rows s).scene c.args.of) c.in-Known.ensures.reads.keeps.frame c.in-Known-is_broken.ensures.told made in_hand told in
+    val_by now c.args.at c.args.of c.in-Ok.x true (sym c.if-value.true ∙ bad)
+    ∙ after_ok _ c.in-Ok.x (λ v. val_as now c.args.at c.args.of v) ((rw c.in-Ok.is at c.in-Known.ensures.told) made in_hand told)
+
+pub converted-requires-clause-suits : goal.converted-requires-clause-suits
+converted-requires-clause-suits g c = SuitsSite_read c.in-Known-is_broken.ensures.reads (SuitsSite_read c.in-Known.ensures.reads c.requires.suits)
+
+pub converted-requires-clause-of : goal.converted-requires-clause-of
+converted-requires-clause-of g c = IsThere_read c.in-Known-is_broken.ensures.reads (IsThere_read c.in-Known.ensures.reads c.requires.of)
+
+pub converted-requires-clause-x : goal.converted-requires-clause-x
+converted-requires-clause-x g c =
+    IsOperand_read c.in-Ok.x c.in-Known-is_broken.ensures.reads (IsOperand_read c.in-Ok.x c.in-Known.ensures.reads (rw c.in-Ok.is at c.in-Known.ensures.there))
+
+pub returns-clause-reads : goal.returns-clause-reads
+returns-clause-reads g c = Reads-trans (Reads-trans c.in-Known.ensures.reads c.in-Known-is_broken.ensures.reads) c.converted.ensures.reads
+
+pub returns-clause-waits : goal.returns-clause-waits
+returns-clause-waits g c =
+    Waits_asked c.converted.result (g.S.Scopes.state c.converted.new.scopes) (Reads-trans c.in-Known.ensures.reads c.in-Known-is_broken.ensures.reads) c.converted.ensures.waits
+
+pub returns-clause-there : goal.returns-clause-there
+returns-clause-there g c = IsOperand_given c.converted.result (Reads-trans c.in-Known.ensures.reads c.in-Known-is_broken.ensures.reads) c.converted.ensures.there
+
+pub returns-clause-told : goal.returns-clause-told
+returns-clause-told g c made in_hand told =
+    let f = (g.S.Scopes.state c.args.scopes.now).frame in
+    let s = c.args.site.now in
+    let now = context_of f made s in
+    let both = Reads-trans c.in-Known.ensures.reads c.in-Known-is_broken.ensures.reads in
+    let bad = told_first _ f _ (λ h rows. is_broken (context_of h rows s).scene c.args.of) c.in-Known.ensures.reads.keeps.frame c.in-Known-is_broken.ensures.told made in_hand told in
+    judged_as c.converted.result f _ s (λ h rows. converted (context_of h rows s) c.args.at c.args.of c.in-Ok.x) made _ both.keeps.frame c.converted.ensures.told
+    (val_by now c.args.at c.args.of c.in-Ok.x false (sym c.if-value.false ∙ bad)
+    ∙ after_ok _ c.in-Ok.x (λ v. val_as now c.args.at c.args.of v) ((rw c.in-Ok.is at c.in-Known.ensures.told) made in_hand told)) in_hand told
 
 pub returns-in-Err-clause-told : goal.returns-in-Err-clause-told
 returns-in-Err-clause-told g c made in_hand told =

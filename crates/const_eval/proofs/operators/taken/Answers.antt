@@ -1,9 +1,11 @@
 use Rattle.std.proofs.Common.{◌∙◌, ap, sym}
 use Rattle.m2_base.specs.Statics.Operations.{base_type}
+use Rattle.const_eval.proofs.Besides.{char_taken, taken_by}
+use Rattle.const_eval.proofs.Standard.{char_base}
 use Rattle.const_eval.proofs.operators.taken.Goals as goal
 
-pub returns-clause-told : goal.returns-clause-told
-returns-clause-told c k names right = c.taken_beside.ensures.told k names right
-
-pub returns-clause-based : goal.returns-clause-based
-returns-clause-based c k names there left right = c.base_beside.ensures.told k there left right ∙ ap (base_type k) (sym (c.taken_beside.ensures.told k names right))
+pub returns-then-is_beside_char-clause-based : goal.returns-then-is_beside_char-clause-based
+returns-then-is_beside_char-clause-based c k names there left right =
+    let beside = sym c.if-is_beside_char.true ∙ c.is_beside_char.ensures k right in
+    char_taken k c.args.x.operand c.args.y.now (char_base k there) beside
+    ∙ ap (base_type k) (sym (c.as_char.ensures.told k.source names ∙ taken_by k.source k.scene c.args.x.operand c.args.y.now _ beside))

@@ -1,4 +1,4 @@
-use Rattle.std.proofs.Common.{◌∙◌, ap, pos, if◌then◌else◌}
+use Rattle.std.proofs.Common.{◌∙◌, ap, pos, sym, if◌then◌else◌}
 use Rattle.m2_base.specs.Statics.Types.{is_broken}
 use Rattle.m2_base.specs.declared.operands.Operand.TheVariants.{Constant, InError}
 use Rattle.type_rules.specs.Scenes.{scene_of}
@@ -19,14 +19,24 @@ returns-in-DontKnowYet-is_broken-clause-reads g c = Reads-trans c.in-Known.ensur
 pub returns-in-DontKnowYet-is_broken-clause-waits : goal.returns-in-DontKnowYet-is_broken-clause-waits
 returns-in-DontKnowYet-is_broken-clause-waits g c = Waits_read c.in-Known.ensures.reads c.in-DontKnowYet-is_broken.ensures.waits
 
-pub returns-clause-reads : goal.returns-clause-reads
-returns-clause-reads g c = Reads-trans c.in-Known.ensures.reads c.in-Known-is_broken.ensures.reads
+pub returns-then-value-clause-reads : goal.returns-then-value-clause-reads
+returns-then-value-clause-reads g c = Reads-trans c.in-Known.ensures.reads c.in-Known-is_broken.ensures.reads
 
-pub returns-clause-told : goal.returns-clause-told
-returns-clause-told g c made in_hand told =
+pub returns-else-value-clause-reads : goal.returns-else-value-clause-reads
+returns-else-value-clause-reads g c = Reads-trans c.in-Known.ensures.reads c.in-Known-is_broken.ensures.reads
+
+pub returns-then-value-clause-told : goal.returns-then-value-clause-told
+returns-then-value-clause-told g c made in_hand told =
     let f = (g.S.Scopes.state c.args.scopes.now).frame in
     let a = c.args.site.now.around.now in
-    c.empty_set.ensures.told
-    ∙ ap (λ b. if b then InError else Constant c.args.of (pos 0))
-    (told_first _ f _ (λ h rows. is_broken (scene_of h rows a) c.in-Known.value) c.in-Known.ensures.reads.keeps.frame c.in-Known-is_broken.ensures.told made in_hand told
+    ap (λ b. if b then InError else Constant c.args.of (pos 0))
+    (sym c.if-value.true ∙ told_first _ f _ (λ h rows. is_broken (scene_of h rows a) c.in-Known.value) c.in-Known.ensures.reads.keeps.frame c.in-Known-is_broken.ensures.told made in_hand told
+    ∙ ap (is_broken (scene_of f made a)) (c.in-Known.ensures.told made in_hand told))
+
+pub returns-else-value-clause-told : goal.returns-else-value-clause-told
+returns-else-value-clause-told g c made in_hand told =
+    let f = (g.S.Scopes.state c.args.scopes.now).frame in
+    let a = c.args.site.now.around.now in
+    ap (λ b. if b then InError else Constant c.args.of (pos 0))
+    (sym c.if-value.false ∙ told_first _ f _ (λ h rows. is_broken (scene_of h rows a) c.in-Known.value) c.in-Known.ensures.reads.keeps.frame c.in-Known-is_broken.ensures.told made in_hand told
     ∙ ap (is_broken (scene_of f made a)) (c.in-Known.ensures.told made in_hand told))
