@@ -1,7 +1,7 @@
 -- A value or an address that is appended to a piece.
 use Rattle.std.proofs.Common.{◌≡◌, ◌∙◌, ◌++◌, [], List, Option, Some, None, Result, Ok, Err, ap, sym, subst, refl}
 use Rattle.std.proofs.lemmas.List.{append-nil, append_cancel_left}
-use Rattle.std.specs.Prelude.{option_map, true}
+use Rattle.std.specs.Prelude.{IsErr, false, option_map, true}
 use Rattle.std.specs.Option.{IfNone, IfSome}
 use Rattle.m2_base.specs.Asks.{IfKnown, IfWaits}
 use Rattle.m2_base.specs.Gives.{Gives}
@@ -24,7 +24,7 @@ use Rattle.expr_sem.proofs.RefusedValues.{Erred}
 use Rattle.expr_sem.specs.Coded as code
 use Rattle.expr_sem.specs.Codings.{Coding}
 use Rattle.expr_sem.specs.Evaluations.{Evaluates, IsEvaluated, KeepsPiece, evaluated, evaluated_in, evaluation, operand_of, unless_in_error}
-use Rattle.expr_sem.specs.Fragments.{AreSound, Grows, IsIn, part}
+use Rattle.expr_sem.specs.Fragments.{AreSound, Grows, part}
 use Rattle.expr_sem.specs.Parts.{Part}
 use Rattle.expr_sem.specs.Pieces.{Appended, IsAsBefore}
 use Rattle.expr_sem.specs.Whole.{AreWhole}
@@ -93,6 +93,11 @@ module _ {a b : State} {x y : Notes} {ns ms : List Node} {s : Site} {worth : Con
   pub evaluates_none : {m : Memory} {T V : Type 0} {P : Frame → List Node → T → Type 0} {as_p : List Node → T → V} {g : Context → Gives V} → Coding a b x y ns ms s (Err m) P as_p g → (n : Memory) → IsAsBefore from to → Evaluates a b x y from to ws s (Err n) worth given
   evaluates_none p n kept = record { works = p.works; waits = tt; kept = kept; told = λ made in_hand told of_site. tt; unrefused = λ made in_hand told of_site. tt; caused = λ made in_hand told of_site whole. tt; appended = λ made in_hand told of_site. tt; there = tt }
 
+  -- the same, where the want is what `?` hands on
+  pub evaluates_full : {T V : Type 0} {P : Frame → List Node → T → Type 0} {as_p : List Node → T → V} {g : Context → Gives V} {first : Result (Ask T) Memory} (r : Result (Ask (Option Operand)) Memory) → IsErr r → Coding a b x y ns ms s first P as_p g → IsAsBefore from to → Evaluates a b x y from to ws s r worth given
+  evaluates_full (Ok v) is p kept = absurd (let h : false ≡ true = is in cc)
+  evaluates_full (Err n) is p kept = record { works = p.works; waits = tt; kept = kept; told = λ made in_hand told of_site. tt; unrefused = λ made in_hand told of_site. tt; caused = λ made in_hand told of_site whole. tt; appended = λ made in_hand told of_site. tt; there = tt }
+
   -- and so it is where the operand isn't known yet
   pub evaluates_later : {h : Head} {T V : Type 0} {P : Frame → List Node → T → Type 0} {as_p : List Node → T → V} {g : Context → Gives V} → Coding a b x y ns ms s (Ok (DontKnowYet h)) P as_p g → IsAsBefore from to → Evaluates a b x y from to ws s (Ok (DontKnowYet h)) worth given
   evaluates_later p kept = record { works = p.works; waits = p.waits; kept = kept; told = λ made in_hand told of_site. tt; unrefused = λ made in_hand told of_site. tt; caused = λ made in_hand told of_site whole. tt; appended = λ made in_hand told of_site. tt; there = tt }
@@ -141,8 +146,3 @@ same_piece p = record { steps = refl; bytes = refl; cell = refl; byte = refl }
 -- fragments that were made of none are sound
 pub sound_from_none : {ns ms : List Node} → Grows ns ms → AreSound ns → AreSound ms
 sound_from_none g h = g.sound h
-
--- and the code that is evaluated is one of them
-pub evaluated_there : (f : Frame) (ns : List Node) (x : Option (Operand × Fragment)) → IsEvaluated f ns x → IfSome x (λ y. IsIn ns y.1)
-evaluated_there f ns None h = tt
-evaluated_there f ns (Some x) h = h.1

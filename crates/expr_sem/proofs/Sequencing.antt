@@ -59,10 +59,6 @@ made_as to (Err m) h e = tt
 pub made_after : {a b c : List Node} {p q : Part} (r : Result Fragment Memory) → Grows a b → IsMade b c r p → p ≡ q → IsMade a c r q
 made_after {a} {b} {c} r g h e = record { grows = Grows-trans g h.grows; made = made_as c r h.made e }
 
--- no fragment
-pub made_nothing : (ns : List Node) (p : Part) → none ≡ p → IsMade ns ns (Ok Nothing) p
-made_nothing ns p e = record { grows = Grows-refl ns; made = record { there = tt; part_is = e } }
-
 -- memory was wanted, of a part that was made on the way or of the whole
 pub wanted : {a b : List Node} {p q : Part} {m : Memory} → IsMade a b (Err m) p → (n : Memory) → IsMade a b (Err n) q
 wanted h n = record { grows = h.grows; made = tt }

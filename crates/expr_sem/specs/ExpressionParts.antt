@@ -8,11 +8,10 @@ use Rattle.m2_base.specs.Trees.{Designator, Expr, Exprs, Labels, designator_at, 
 use Rattle.m2_base.specs.Statics.TypeParts.{Parameter}
 use Rattle.m2_base.specs.declared.builtins.Builtin.{Builtin}
 use Rattle.m2_base.specs.declared.rows.Place.{Place}
-use Rattle.code_form.specs.declared.instr.Instr.{Instr}
 use Rattle.type_rules.specs.Scenes.{IsThere}
 use Rattle.expr_sem.specs.Arguments.{after_argument, argument}
-use Rattle.expr_sem.specs.Calls.{Called, call_coded, called}
-use Rattle.expr_sem.specs.Coded.{Coded, in_error}
+use Rattle.expr_sem.specs.Calls.{Called, called}
+use Rattle.expr_sem.specs.Coded.{Coded}
 use Rattle.expr_sem.specs.Elements.{select_element}
 use Rattle.expr_sem.specs.Expressions.{by_called, count_of_exprs, designated, elements, expression, looked_at, passed}
 use Rattle.expr_sem.specs.Expressions.{standard, value}
@@ -84,13 +83,3 @@ called_with c withs is_wanted at x args =
 abbrev pub second_argument : Context → (withs : List Place) → Builtin → (first_at : ℕ) → Coded → Expr → Gives Coded
 second_argument c withs f first_at v e =
     and_then (expression c withs e) (λ y. of_two_arguments c f first_at v (expr_at e) y)
-
--- a procedure with these arguments
-abbrev pub procedure : Context → (withs : List Place) → List Parameter → (before : Part) → Instr → Option Place
-    → (more : ℕ) → Exprs → Gives Coded
-procedure c withs ps before calls result more args =
-    and_then (passed c withs ps args) (λ codes. gives (call_coded c.scene ps before calls result more codes))
-
--- a procedure that the module lacks, with these arguments
-abbrev pub lacking : Context → (withs : List Place) → List Parameter → Exprs → Gives Coded
-lacking c withs ps args = and_then (passed c withs ps args) (λ codes. gives in_error)

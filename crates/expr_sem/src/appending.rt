@@ -1,14 +1,14 @@
 //! The forms of fragments, appended to a piece one after another.
-ghost use Rattle.std.specs.Prelude.{◌≡◌, ◌+◌, ◌∷◌, [], List, ◌++◌, OnOk, length, map, min, pos, slice_index};
+ghost use Rattle.std.specs.Prelude.{◌≡◌, ◌+◌, ◌∷◌, [], List, ◌++◌, OnOk, length, map, min, slice_index};
 ghost use Rattle.m2_base.specs.Statics.Cells.{capped};
 ghost use Rattle.expr_sem.specs.Arguments.{string_copy as spec_copy};
-ghost use Rattle.expr_sem.specs.Fragments.{AreSound, IsIn, IsMadeOf, jump_of, part, step_view};
-ghost use Rattle.expr_sem.specs.Parts.{plain, steps, text as spec_text, unless_too_many, with_record as spec_record};
+ghost use Rattle.expr_sem.specs.Fragments.{AreSound, IsIn, IsMadeOf, part};
+ghost use Rattle.expr_sem.specs.Parts.{plain, steps, text as spec_text, unless_too_many};
 ghost use Rattle.expr_sem.specs.Pieces.{Appended, Begins};
 ghost use Rattle.expr_sem.specs.declared.pieces.With.{With as OpenWith};
 ghost use Rattle.expr_sem.specs.Stacks.{Visited};
 
-use crate::fragments::{Connective, Form, Fragment, Fragments};
+use crate::fragments::{Form, Fragment, Fragments};
 use crate::pieces::{Piece, With};
 use crate::steps::Step;
 use code_form::Instr;
@@ -28,22 +28,14 @@ pub fn capped_sum(count: u32, more: usize) -> u32
     }
 }
 
-/// Appends a step.
-fn push_step(piece: &mut Piece, step: Step) -> Result<(), Memory>
-    ensures begins { Begins piece.old piece.new }
-    ensures ok { (ws : List OpenWith) → OnOk result (Appended piece.old piece.new ws (steps (step_view step ∷ []))) }
-{
-    piece.steps.push(step)?;
-    Ok(())
-}
-
 /// Appends to a piece an instruction that is no call and no return, with what the machine's table says that it takes
 /// from the stack and leaves there. Where memory is wanted the piece has at least what it had.
 pub fn push_instr(piece: &mut Piece, instr: Instr) -> Result<(), Memory>
     ensures begins { Begins piece.old piece.new }
     ensures ok { (ws : List OpenWith) → OnOk result (Appended piece.old piece.new ws (plain (instr ∷ []))) }
 {
-    push_step(piece, Step::plain(instr))
+    piece.steps.push(Step::plain(instr))?;
+    Ok(())
 }
 
 /// Appends characters with a 0 behind them to the data, unless it would end behind the last byte that it can have.
@@ -110,27 +102,6 @@ fn cell_of(withs: &[With], number: u32) -> u32
     }
 }
 
-/// Appends the address of the record of an open WITH.
-fn push_record(piece: &mut Piece, number: u32, withs: &[With]) -> Result<(), Memory>
-    ensures begins { Begins piece.old piece.new }
-    ensures ok { OnOk result (Appended piece.old piece.new withs.now (spec_record number)) }
-{
-    push_instr(piece, Instr::Local(0, cell_of(withs, number)))?;
-    push_instr(piece, Instr::Load)
-}
-
-/// Appends the jump over code of this length.
-fn push_jump(piece: &mut Piece, connective: Connective, size: u64) -> Result<(), Memory>
-    ensures begins { Begins piece.old piece.new }
-    ensures ok { (ws : List OpenWith)
-        → OnOk result (Appended piece.old piece.new ws (plain (jump_of connective (pos size) ∷ []))) }
-{
-    let Ok(distance) = i32::try_from(size) else {
-        return Err(Memory);
-    };
-    push_instr(piece, connective.jump(distance))
-}
-
 /// Appends a form's own part; the fragments that it is made of are put on the stack, the first one last.
 fn visit(
     fragments: &Fragments,
@@ -146,17 +117,26 @@ fn visit(
         (Visited piece.old piece.new withs.now fragments.now.nodes.items form.now rest.old.items rest.new.items) }
 {
     match form {
-        Form::One(step) => push_step(piece, *step),
+        Form::One(step) => {
+            piece.steps.push(*step)?;
+            Ok(())
+        }
         Form::Text(characters) => push_text(piece, characters),
         Form::StringCopy(size, characters) => push_copy(piece, *size, characters),
-        Form::WithRecord(number) => push_record(piece, *number, withs),
+        Form::WithRecord(number) => {
+            push_instr(piece, Instr::Local(0, cell_of(withs, *number)))?;
+            push_instr(piece, Instr::Load)
+        }
         Form::Then(first, second) => {
             rest.push(*second)?;
             rest.push(*first)?;
             Ok(())
         }
         Form::Skip(connective, skipped) => {
-            push_jump(piece, *connective, fragments.size(*skipped))?;
+            let Ok(distance) = i32::try_from(fragments.size(*skipped)) else {
+                return Err(Memory);
+            };
+            push_instr(piece, connective.jump(distance))?;
             rest.push(*skipped)?;
             Ok(())
         }

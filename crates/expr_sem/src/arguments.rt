@@ -1,7 +1,7 @@
 //! The code of arguments beside their parameters.
-ghost use Rattle.std.specs.Prelude.{◌≡◌, ◌<◌, ◌-◌, ◌∷◌, ◌&&◌, [], List, None, length, not, pos};
+ghost use Rattle.std.specs.Prelude.{◌≡◌, ◌-◌, ◌&&◌, List, None, not, pos};
 ghost use Rattle.m2_base.specs.States.{State};
-ghost use Rattle.m2_base.specs.Statics.Contexts.{Source, refuse as spec_refuse};
+ghost use Rattle.m2_base.specs.Statics.Contexts.{refuse as spec_refuse};
 ghost use Rattle.m2_base.specs.Statics.Types.{kind_of};
 ghost use Rattle.code_form.specs.declared.instr.Instr.TheVariants.{Push};
 ghost use Rattle.const_eval.specs.Sites.{IsOperand};
@@ -10,13 +10,9 @@ ghost use Rattle.expr_sem.specs.Arguments.{alike as spec_alike, argument as spec
 ghost use Rattle.expr_sem.specs.Arguments.{array_argument as spec_array_argument, by_address as spec_address};
 ghost use Rattle.expr_sem.specs.Arguments.{by_value as spec_value, checked_mode as spec_checked};
 ghost use Rattle.expr_sem.specs.Arguments.{is_variable as spec_variable, open_argument as spec_open};
-ghost use Rattle.expr_sem.specs.Arguments.{string_copy as spec_copy};
-ghost use Rattle.expr_sem.specs.Coded.{characters as spec_characters};
 ghost use Rattle.expr_sem.specs.Coders.{Codes, Keeps, SuitsPlace, frame_of, nodes_of};
 ghost use Rattle.expr_sem.specs.Codings.{Coding, IsCoded, coded_in};
-ghost use Rattle.expr_sem.specs.Fragments.{IsMade};
 ghost use Rattle.expr_sem.specs.Kinds.{IsKindHere};
-ghost use Rattle.expr_sem.specs.Parts.{plain, text as spec_text, ◌⨟◌};
 ghost use Rattle.m2_base.specs.Diagnostics.{code_of};
 ghost use Rattle.expr_sem.specs.declared.fragments.Node.{Node};
 ghost use Rattle.type_rules.specs.Scenes.{IsThere};
@@ -26,7 +22,7 @@ use crate::chains::instr_behind;
 use crate::coded::{Coded, Placed};
 use crate::coder::Coder;
 use crate::fitting::fitted_code;
-use crate::fragments::{Fragment, Fragments};
+use crate::fragments::Fragment;
 use crate::refusals::refused;
 use crate::standard_functions::{has_small_ordinal, high_code};
 use crate::values::{as_value, characters, string_value};
@@ -36,7 +32,7 @@ use m2_base::{Ask, Diagnostic, Memory, Notes, Operand, Place, RowMeaning, Scopes
 use type_rules::{CHARACTER, same, size_of, stand};
 
 /// A parameter: its type, and whether it is a VAR parameter.
-#[derive(Clone, Copy, Debug, PartialEq, Eq)]
+#[derive(Clone, Copy)]
 pub struct Parameter {
     pub of: Place,
     pub by_ref: bool,
@@ -49,6 +45,13 @@ impl Parameter {
     {
         self.by_ref && !matches!(operand, Operand::Variable(_))
     }
+}
+
+/// The length of a string less 1, pushed.
+fn push_length(length: u32) -> Instr
+    ensures { result ≡ Push (pos (length - 1)) }
+{
+    Instr::Push(length.saturating_sub(1) as i64)
 }
 
 /// Refuses an argument: it has no code.
@@ -65,23 +68,8 @@ fn refuse_argument(
     Ok(Ask::Known(None))
 }
 
-/// The address of so many temporary cells with a copy of a string.
-fn copy_string(
-    site: &Site,
-    name: u32,
-    size: u32,
-    fragments: &mut Fragments,
-) -> Result<Fragment, Memory>
-    requires named { name < length site.now.texts.now.names }
-    ensures { (source : Source) → source.spellings ≡ site.now.texts.now.names → IsMade fragments.old.nodes.items
-        fragments.new.nodes.items result (spec_copy size (spec_characters source name)) }
-{
-    let bytes = characters(site, name)?;
-    fragments.string_copy(size, bytes)
-}
-
 impl<S: Scopes> Coder<'_, '_, S> {
-    /// An argument of a value parameter that is no open array.
+    /// An argument of a value parameter that is no open array; of a string the address of a copy.
     fn by_value(&mut self, of: Place, x: Placed) -> Result<Ask<Option<Fragment>>, Memory>
         requires suits { SuitsPlace S.state self.old }
         requires of { IsThere (frame_of S.state self.old) of }
@@ -95,7 +83,8 @@ impl<S: Scopes> Coder<'_, '_, S> {
             Operand::InError => Ok(Ask::Known(None)),
             Operand::StringConstant(name, _) => {
                 let size = asked!(size_of(self.scopes, self.site.around, of));
-                let copy = copy_string(self.site, name, size as u32, self.fragments)?;
+                let bytes = characters(self.site, name)?;
+                let copy = self.fragments.string_copy(size as u32, bytes)?;
                 Ok(Ask::Known(Some(copy)))
             }
             _ => {
@@ -195,33 +184,8 @@ impl<S: Scopes> Coder<'_, '_, S> {
             _ => refuse_argument(self.site, x.at, Diagnostic::WrongArgument, self.notes),
         }
     }
-}
 
-/// The length of a string less 1, pushed.
-fn push_length(length: u32) -> Instr
-    ensures { result ≡ Push (pos (length - 1)) }
-{
-    Instr::Push(length.saturating_sub(1) as i64)
-}
-
-/// The code of a string as the argument of an open array: its address, and its length less 1.
-fn push_string(
-    site: &Site,
-    name: u32,
-    size: u32,
-    fragments: &mut Fragments,
-) -> Result<Fragment, Memory>
-    requires named { name < length site.now.texts.now.names }
-    ensures { (source : Source) → source.spellings ≡ site.now.texts.now.names
-        → IsMade fragments.old.nodes.items fragments.new.nodes.items result
-        (spec_text (spec_characters source name) ⨟ plain (Push (pos (size - 1)) ∷ [])) }
-{
-    let address = string_value(site, name, fragments)?;
-    instr_behind(address, push_length(size), fragments)
-}
-
-impl<S: Scopes> Coder<'_, '_, S> {
-    /// An argument of an open array with elements of a type.
+    /// An argument of an open array with elements of a type; of a string its address, and its length less 1.
     fn open_argument(&mut self, want: Place, x: Placed) -> Result<Ask<Option<Fragment>>, Memory>
         requires suits { SuitsPlace S.state self.old }
         requires want { IsThere (frame_of S.state self.old) want }
@@ -233,7 +197,8 @@ impl<S: Scopes> Coder<'_, '_, S> {
         match x.coded.operand {
             Operand::StringConstant(name, length) => {
                 if asked!(same(self.scopes, self.site.around, want, CHARACTER)) {
-                    let code = push_string(self.site, name, length, self.fragments)?;
+                    let address = string_value(self.site, name, self.fragments)?;
+                    let code = instr_behind(address, push_length(length), self.fragments)?;
                     return Ok(Ask::Known(Some(code)));
                 }
                 refuse_argument(self.site, x.at, Diagnostic::WrongArgument, self.notes)

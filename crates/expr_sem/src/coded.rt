@@ -12,7 +12,7 @@ use m2_base::Operand;
 
 /// An operand, and its code: that of a variable gives its address, that of a computed value gives it. `high` is of an
 /// open array alone: the code of the number of its elements less 1.
-#[derive(Clone, Copy, Debug, PartialEq, Eq)]
+#[derive(Clone, Copy)]
 pub struct Coded {
     pub operand: Operand,
     pub code: Fragment,
@@ -20,7 +20,7 @@ pub struct Coded {
 }
 
 /// An operand with its code, and its first token.
-#[derive(Clone, Copy, Debug, PartialEq, Eq)]
+#[derive(Clone, Copy)]
 pub struct Placed {
     pub at: u32,
     pub coded: Coded,

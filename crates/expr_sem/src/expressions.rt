@@ -1,43 +1,37 @@
 //! What expressions and designators stand for, with their code, by recursion on the trees.
 ghost use Rattle.std.specs.Prelude.{map};
 ghost use Rattle.m2_base.specs.Lists.{Each};
-ghost use Rattle.m2_base.specs.Statics.ReadTrees.{AreReadExprs, AreReadLabels, AreReadNexts, AreReadSelectors};
-ghost use Rattle.m2_base.specs.Statics.ReadTrees.{IsReadDesignator, IsReadExpr, IsReadLabel, IsReadNext};
+ghost use Rattle.m2_base.specs.Statics.ReadTrees.{AreReadExprs, AreReadLabels, AreReadNexts};
+ghost use Rattle.m2_base.specs.Statics.ReadTrees.{IsReadDesignator, IsReadExpr, IsReadLabel};
 ghost use Rattle.m2_base.specs.Statics.ReadTrees.{IsReadSelector};
-ghost use Rattle.m2_base.specs.Trees.{exprs, labels, nexts, selectors};
+ghost use Rattle.m2_base.specs.Trees.{exprs, labels, nexts};
 ghost use Rattle.m2_base.specs.Views.{designator_view, expr_view, label_view, next_view, selector_view};
 ghost use Rattle.expr_sem.specs.Coders.{Codes, Keeps, SeesWiths, SuitsPlace, frame_of, names_of, nodes_of};
 ghost use Rattle.expr_sem.specs.ArgumentCodes.{IsArgument, argument_in, parameter_view};
-ghost use Rattle.expr_sem.specs.Callees.{IsCallable, IsCallee, called_in};
 ghost use Rattle.expr_sem.specs.Codings.{IsCoded, coded_in, with_types};
-ghost use Rattle.expr_sem.specs.ExpressionParts.{IsPlace, called_as as spec_called_as};
-ghost use Rattle.expr_sem.specs.ExpressionParts.{called_with as spec_called_with, first_argument as spec_first};
-ghost use Rattle.expr_sem.specs.ExpressionParts.{index as spec_index, lacking as spec_lacking, member as spec_member};
-ghost use Rattle.expr_sem.specs.ExpressionParts.{next_passed as spec_next, place_in, procedure as spec_procedure};
-ghost use Rattle.expr_sem.specs.ExpressionParts.{range_to as spec_range, second_argument as spec_second};
+ghost use Rattle.expr_sem.specs.ExpressionParts.{IsPlace, called_with as spec_called_with, member as spec_member};
+ghost use Rattle.expr_sem.specs.ExpressionParts.{next_passed as spec_next, place_in, range_to as spec_range};
 ghost use Rattle.expr_sem.specs.ExpressionParts.{set_of as spec_set, type_before as spec_type};
 ghost use Rattle.expr_sem.specs.Expressions.{call_alone as spec_alone, continued as spec_continued};
 ghost use Rattle.expr_sem.specs.Expressions.{designated as spec_designated, element as spec_element};
 ghost use Rattle.expr_sem.specs.Expressions.{elements as spec_elements, expression as spec_expression};
-ghost use Rattle.expr_sem.specs.Expressions.{followed as spec_followed, indexed as spec_indexed};
+ghost use Rattle.expr_sem.specs.Expressions.{indexed as spec_indexed};
 ghost use Rattle.expr_sem.specs.Expressions.{looked_at as spec_looked, passed as spec_passed};
-ghost use Rattle.expr_sem.specs.Expressions.{selected as spec_selected, selector as spec_selector};
+ghost use Rattle.expr_sem.specs.Expressions.{selector as spec_selector};
 ghost use Rattle.expr_sem.specs.Expressions.{standard as spec_standard, value as spec_value};
-ghost use Rattle.expr_sem.specs.Fragments.{part};
 ghost use Rattle.expr_sem.specs.SetCodings.{AreElements, elements_in};
 ghost use Rattle.type_rules.specs.Scenes.{IsThere};
 
 use crate::argument_codes::{all_passed, behind_first, joined};
 use crate::arguments::Parameter;
-use crate::calls::{Callable, Callee};
+use crate::calls::Callable;
 use crate::coded::{Coded, Placed};
 use crate::coder::Coder;
 use crate::fragments::Fragment;
-use crate::leaves::type_noted;
 use crate::set_elements::{Elements, set_coded, set_start};
 use crate::standard_procedures::of_no_argument;
 use crate::values::as_value;
-use const_eval::string_constant;
+use const_eval::{Argument, note_type, set_type_of, string_constant, taken};
 use m2_base::{
     Ask, Builtin, Designator, Expr, ExprForm, Label, Memory, Next, Operand, Place, Scopes, Selector,
 };
@@ -123,32 +117,18 @@ impl<S: Scopes> Coder<'_, '_, S> {
     {
         let mut x = left.coded;
         for next in rest.iter() {
+            let coded = analysed!(self.value_of(&next.right));
+            let right = Placed {
+                at: next.right.at,
+                coded,
+            };
             let before = Placed {
                 at: left.at,
                 coded: x,
             };
-            x = analysed!(self.followed(before, next));
+            x = analysed!(self.two_coded(next.op, next.op_at, before, right));
         }
         Ok(Ask::Known(x))
-    }
-
-    /// An operator and the operand behind it, after the operand before it.
-    #[cycle(expressions)]
-    fn followed(&mut self, left: Placed, next: &Next) -> Result<Ask<Coded>, Memory>
-        requires suits { SuitsPlace S.state self.old }
-        requires withs { SeesWiths S.state self.old }
-        requires left { IsCoded (frame_of S.state self.old) (nodes_of self.old) left.coded }
-        requires read { IsReadNext (names_of self.old) (next_view next.now) }
-        ensures keeps { Keeps self.old self.new }
-        ensures codes { Codes S.state self.old self.new result IsCoded coded_in (λ c. spec_followed c
-            (with_types self.old.withs.now) left.at (coded_in (nodes_of self.old) left.coded) (next_view next.now)) }
-    {
-        let coded = analysed!(self.value_of(&next.right));
-        let right = Placed {
-            at: next.right.at,
-            coded,
-        };
-        self.two_coded(next.op, next.op_at, left, right)
     }
 
     /// The type before the brackets of a set.
@@ -162,7 +142,8 @@ impl<S: Scopes> Coder<'_, '_, S> {
             (λ c. spec_type c (with_types self.old.withs.now) (designator_view of.now)) }
     {
         let x = analysed!(self.designated(of));
-        type_noted(self.scopes, self.site, of.first.at, x.operand, self.notes)
+        let given = set_type_of(self.scopes, self.site, of.first.at, x.operand);
+        note_type(self.site.around.text, given, self.notes)
     }
 
     /// A set of this type with these elements.
@@ -252,7 +233,8 @@ impl<S: Scopes> Coder<'_, '_, S> {
         self.add_range(es, low, high)
     }
 
-    /// An expression as it is taken into a set.
+    /// An expression as it is taken into a set with this base, as an element or an end of a range: what const_eval's
+    /// `taken` gives of its operand, with the operand's own code still.
     #[cycle(expressions)]
     fn member(&mut self, base: Place, e: &Expr) -> Result<Ask<Coded>, Memory>
         requires suits { SuitsPlace S.state self.old }
@@ -263,8 +245,15 @@ impl<S: Scopes> Coder<'_, '_, S> {
         ensures codes { Codes S.state self.old self.new result IsCoded coded_in
             (λ c. spec_member c (with_types self.old.withs.now) base (expr_view e.now)) }
     {
-        let coded = analysed!(self.value_of(e));
-        self.element_coded(base, Placed { at: e.at, coded })
+        let x = analysed!(self.value_of(e));
+        let element = Argument {
+            at: e.at,
+            operand: x.operand,
+        };
+        match analysed!(taken(self.scopes, self.site, base, element, self.notes)) {
+            Operand::InError => Ok(Ask::Known(Coded::in_error())),
+            operand => Ok(Ask::Known(x.taken(operand))),
+        }
     }
 
     /// Arguments of what isn't called, for their own diagnostics.
@@ -300,41 +289,17 @@ impl<S: Scopes> Coder<'_, '_, S> {
                 self.of_one_argument(f, e.at, x)
             }
             [e, other, ..] => {
-                let coded = analysed!(self.first_argument(f, e));
+                let x = analysed!(self.expression(e));
+                let coded = analysed!(self.first_of_two(f, e.at, x));
                 let first = Placed { at: e.at, coded };
-                self.second_argument(f, first, other)
+                let coded = analysed!(self.expression(other));
+                let second = Placed {
+                    at: other.at,
+                    coded,
+                };
+                self.of_two_arguments(f, first, second)
             }
         }
-    }
-
-    /// The first of two arguments of a standard procedure.
-    #[cycle(expressions)]
-    fn first_argument(&mut self, f: Builtin, e: &Expr) -> Result<Ask<Coded>, Memory>
-        requires suits { SuitsPlace S.state self.old }
-        requires withs { SeesWiths S.state self.old }
-        requires read { IsReadExpr (names_of self.old) (expr_view e.now) }
-        ensures keeps { Keeps self.old self.new }
-        ensures codes { Codes S.state self.old self.new result IsCoded coded_in
-            (λ c. spec_first c (with_types self.old.withs.now) f (expr_view e.now)) }
-    {
-        let x = analysed!(self.expression(e));
-        self.first_of_two(f, e.at, x)
-    }
-
-    /// A standard procedure, whose first argument is there, with its second.
-    #[cycle(expressions)]
-    fn second_argument(&mut self, f: Builtin, first: Placed, e: &Expr) -> Result<Ask<Coded>, Memory>
-        requires suits { SuitsPlace S.state self.old }
-        requires withs { SeesWiths S.state self.old }
-        requires first { IsCoded (frame_of S.state self.old) (nodes_of self.old) first.coded }
-        requires read { IsReadExpr (names_of self.old) (expr_view e.now) }
-        ensures keeps { Keeps self.old self.new }
-        ensures codes { Codes S.state self.old self.new result IsCoded coded_in (λ c. spec_second c
-            (with_types self.old.withs.now) f first.at (coded_in (nodes_of self.old) first.coded) (expr_view e.now)) }
-    {
-        let coded = analysed!(self.expression(e));
-        let second = Placed { at: e.at, coded };
-        self.of_two_arguments(f, first, second)
     }
 
     /// Arguments beside their parameters.
@@ -389,61 +354,8 @@ impl<S: Scopes> Coder<'_, '_, S> {
         }
     }
 
-    /// A procedure with these arguments.
-    #[cycle(expressions)]
-    fn procedure(&mut self, callee: &Callee, args: &[Expr]) -> Result<Ask<Coded>, Memory>
-        requires suits { SuitsPlace S.state self.old }
-        requires withs { SeesWiths S.state self.old }
-        requires callee { IsCallee (frame_of S.state self.old) (nodes_of self.old) callee.now }
-        requires read { AreReadExprs (names_of self.old) (exprs (map expr_view args.now)) }
-        ensures keeps { Keeps self.old self.new }
-        ensures codes { Codes S.state self.old self.new result IsCoded coded_in
-            (λ c. spec_procedure c (with_types self.old.withs.now) (map parameter_view callee.now.params.items)
-            (part (nodes_of self.old) callee.now.before) callee.now.instr callee.now.result callee.now.more
-            (exprs (map expr_view args.now))) }
-    {
-        let params = &callee.params;
-        let codes = analysed!(self.passed(params, args));
-        self.call_coded(callee, codes)
-    }
-
-    /// A procedure that the module lacks, with these arguments: it is in error.
-    #[cycle(expressions)]
-    fn lacking(&mut self, params: &[Parameter], args: &[Expr]) -> Result<Ask<Coded>, Memory>
-        requires suits { SuitsPlace S.state self.old }
-        requires withs { SeesWiths S.state self.old }
-        requires params { Each (λ p. IsThere (frame_of S.state self.old) p.of) params.now }
-        requires read { AreReadExprs (names_of self.old) (exprs (map expr_view args.now)) }
-        ensures keeps { Keeps self.old self.new }
-        ensures codes { Codes S.state self.old self.new result IsCoded coded_in (λ c. spec_lacking c
-            (with_types self.old.withs.now) (map parameter_view params.now) (exprs (map expr_view args.now))) }
-    {
-        let _codes = analysed!(self.passed(params, args));
-        Ok(Ask::Known(Coded::in_error()))
-    }
-
-    /// What is called, with these arguments.
-    #[cycle(expressions)]
-    fn called_as(&mut self, what: &Callable, args: &[Expr]) -> Result<Ask<Coded>, Memory>
-        requires suits { SuitsPlace S.state self.old }
-        requires withs { SeesWiths S.state self.old }
-        requires what { IsCallable (frame_of S.state self.old) (nodes_of self.old) what.now }
-        requires read { AreReadExprs (names_of self.old) (exprs (map expr_view args.now)) }
-        ensures keeps { Keeps self.old self.new }
-        ensures codes { Codes S.state self.old self.new result IsCoded coded_in
-            (λ c. spec_called_as c (with_types self.old.withs.now) (exprs (map expr_view args.now))
-            (called_in (nodes_of self.old) what.now)) }
-    {
-        match what {
-            Callable::Standard(f) => self.standard(*f, args),
-            Callable::Procedure(callee) => self.procedure(callee, args),
-            Callable::Lacking(params) => self.lacking(params, args),
-            Callable::Nothing => self.looked_at(args),
-        }
-    }
-
-    /// Something with these arguments. `is_wanted` tells whether the call stands where a value is wanted;
-    /// `at` is the first token.
+    /// Something with these arguments; a procedure that the module lacks is in error. `is_wanted` tells whether the
+    /// call stands where a value is wanted; `at` is the first token.
     #[cycle(expressions)]
     fn called_with(
         &mut self,
@@ -462,7 +374,18 @@ impl<S: Scopes> Coder<'_, '_, S> {
     {
         let count = args.len();
         let what = analysed!(self.called(is_wanted, to.at, count, to.coded));
-        self.called_as(&what, args)
+        match &what {
+            Callable::Standard(f) => self.standard(*f, args),
+            Callable::Procedure(callee) => {
+                let codes = analysed!(self.passed(&callee.params, args));
+                self.call_coded(callee, codes)
+            }
+            Callable::Lacking(params) => {
+                let _codes = analysed!(self.passed(params, args));
+                Ok(Ask::Known(Coded::in_error()))
+            }
+            Callable::Nothing => self.looked_at(args),
+        }
     }
 
     /// What a designator stands for within the open WITHs: its name, and then what each selector selects of that. The
@@ -476,27 +399,12 @@ impl<S: Scopes> Coder<'_, '_, S> {
         ensures codes { Codes S.state self.old self.new result IsCoded coded_in
             (λ c. spec_designated c (with_types self.old.withs.now) (designator_view of.now)) }
     {
-        let x = analysed!(self.name_coded(of.first));
-        self.selected(of.first.at, x, &of.rest)
-    }
-
-    /// What the selectors select, one after another.
-    #[cycle(expressions)]
-    fn selected(&mut self, first: u32, x: Coded, rest: &[Selector]) -> Result<Ask<Coded>, Memory>
-        requires suits { SuitsPlace S.state self.old }
-        requires withs { SeesWiths S.state self.old }
-        requires x { IsCoded (frame_of S.state self.old) (nodes_of self.old) x }
-        requires read { AreReadSelectors (names_of self.old) (selectors (map selector_view rest.now)) }
-        ensures keeps { Keeps self.old self.new }
-        ensures codes { Codes S.state self.old self.new result IsCoded coded_in
-            (λ c. spec_selected c (with_types self.old.withs.now) first (coded_in (nodes_of self.old) x)
-            (selectors (map selector_view rest.now))) }
-    {
-        let mut y = x;
+        let mut x = analysed!(self.name_coded(of.first));
+        let rest: &[Selector] = &of.rest;
         for selector in rest.iter() {
-            y = analysed!(self.select(first, y, selector));
+            x = analysed!(self.select(of.first.at, x, selector));
         }
-        Ok(Ask::Known(y))
+        Ok(Ask::Known(x))
     }
 
     /// What a selector selects.
@@ -530,25 +438,11 @@ impl<S: Scopes> Coder<'_, '_, S> {
     {
         let mut y = x;
         for e in es.iter() {
-            y = analysed!(self.index(first, at, y, e));
+            let coded = analysed!(self.value_of(e));
+            let index = Placed { at: e.at, coded };
+            y = analysed!(self.select_element(first, at, index, y));
         }
         Ok(Ask::Known(y))
-    }
-
-    /// What one index selects.
-    #[cycle(expressions)]
-    fn index(&mut self, first: u32, at: u32, x: Coded, e: &Expr) -> Result<Ask<Coded>, Memory>
-        requires suits { SuitsPlace S.state self.old }
-        requires withs { SeesWiths S.state self.old }
-        requires x { IsCoded (frame_of S.state self.old) (nodes_of self.old) x }
-        requires read { IsReadExpr (names_of self.old) (expr_view e.now) }
-        ensures keeps { Keeps self.old self.new }
-        ensures codes { Codes S.state self.old self.new result IsCoded coded_in (λ c.
-            spec_index c (with_types self.old.withs.now) first at (coded_in (nodes_of self.old) x) (expr_view e.now)) }
-    {
-        let coded = analysed!(self.value_of(e));
-        let index = Placed { at: e.at, coded };
-        self.select_element(first, at, index, x)
     }
 
     /// A call that stands as a statement: its code computes the arguments, calls, and leaves the stack as it was. What

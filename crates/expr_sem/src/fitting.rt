@@ -7,8 +7,7 @@ ghost use Rattle.const_eval.specs.Sites.{IsOperand};
 ghost use Rattle.expr_sem.specs.Codings.{Coding, IsCoded, IsFragment, coded_in};
 ghost use Rattle.expr_sem.specs.Fitting.{check_of as spec_check_of, fit_check as spec_fit_check};
 ghost use Rattle.expr_sem.specs.Fitting.{fit_of as spec_fit_of, fitted_code as spec_fitted};
-ghost use Rattle.expr_sem.specs.Fragments.{IsMade, part};
-ghost use Rattle.expr_sem.specs.Parts.{plain};
+ghost use Rattle.expr_sem.specs.Fragments.{part};
 ghost use Rattle.expr_sem.specs.RangeChecks.{checks_of};
 ghost use Rattle.type_rules.specs.Scenes.{IsThere};
 ghost use Rattle.type_rules.specs.Sites.{SuitsSite};
@@ -33,16 +32,6 @@ fn ends_to_check(from: Option<(i64, i64)>, to: Option<(i64, i64)>) -> Option<(i6
     }
 }
 
-/// The check against a range, where there is one.
-fn check(ends: Option<(i64, i64)>, fragments: &mut Fragments) -> Result<Fragment, Memory>
-    ensures { IsMade fragments.old.nodes.items fragments.new.nodes.items result (plain (checks_of ends)) }
-{
-    match ends {
-        Some((low, high)) => fragments.one(Instr::Check(low, high)),
-        None => Ok(Fragment::Nothing),
-    }
-}
-
 /// The check behind a value of one type that is to be of another.
 fn fit_check<S: Scopes>(
     scopes: &mut S,
@@ -59,7 +48,10 @@ fn fit_check<S: Scopes>(
 {
     let values = asked!(range_of(scopes, site.around, from));
     let wanted = asked!(range_of(scopes, site.around, to));
-    answered(check(ends_to_check(values, wanted), fragments))
+    match ends_to_check(values, wanted) {
+        Some((low, high)) => answered(fragments.one(Instr::Check(low, high))),
+        None => Ok(Ask::Known(Fragment::Nothing)),
+    }
 }
 
 /// The check behind an operand that is to be of a type. A constant was looked at already,

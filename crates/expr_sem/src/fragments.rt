@@ -12,7 +12,7 @@ use m2_base::Memory;
 use std::alloc::Global;
 
 /// The operators whose right side is skipped where the left one decides.
-#[derive(Clone, Copy, Debug, PartialEq, Eq)]
+#[derive(Clone, Copy)]
 pub enum Connective {
     And,
     Or,

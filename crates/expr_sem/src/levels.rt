@@ -1,5 +1,5 @@
 //! How deep a scope lies round a block.
-ghost use Rattle.std.specs.Prelude.{◌≡◌, ◌-◌, ◌==◌, position, unwrap_or};
+ghost use Rattle.std.specs.Prelude.{◌≡◌, ◌==◌, position};
 ghost use Rattle.m2_base.specs.Statics.Contexts.{level_of as spec_level};
 ghost use Rattle.type_rules.specs.Scenes.{block_of};
 
@@ -12,19 +12,12 @@ fn distance_in(chain: &[u32], scope: u32) -> Option<usize>
     chain.iter().position(|round| *round == scope)
 }
 
-/// The level so far out from a block of this level; 0 where the distance is none.
-fn level_at(level: u32, distance: Option<usize>) -> u32
-    ensures { result ≡ level - unwrap_or distance level }
-{
-    match distance {
-        Some(distance) if distance < level as usize => level - distance as u32,
-        _ => 0,
-    }
-}
-
 /// The level of a scope: procedures round the block by their distance in its chain; modules have 0.
 pub fn level_of(around: &Around, scope: u32) -> u32
     ensures { result ≡ spec_level (block_of around.now) scope }
 {
-    level_at(around.level, distance_in(around.chain.scopes(), scope))
+    match distance_in(around.chain.scopes(), scope) {
+        Some(distance) if distance < around.level as usize => around.level - distance as u32,
+        _ => 0,
+    }
 }

@@ -99,7 +99,6 @@ mod expressions;
 mod fitting;
 mod fragments;
 mod laws;
-mod leaves;
 mod levels;
 mod operators;
 mod pieces;

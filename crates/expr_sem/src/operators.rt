@@ -3,11 +3,9 @@ ghost use Rattle.std.specs.Prelude.{◌≡◌, List};
 ghost use Rattle.m2_base.specs.Gives.{gives};
 ghost use Rattle.m2_base.specs.States.{Frame, Waits};
 ghost use Rattle.m2_base.specs.Standard.{character};
-ghost use Rattle.m2_base.specs.Statics.Contexts.{Source};
-ghost use Rattle.m2_base.specs.Statics.Operands.{char_or_same as spec_same, operand_type as spec_type};
-ghost use Rattle.m2_base.specs.Statics.Operations.{is_set_kind};
+ghost use Rattle.m2_base.specs.Statics.Operands.{operand_type as spec_type};
 ghost use Rattle.m2_base.specs.declared.notes.Notes.{Notes as NotesOf};
-ghost use Rattle.const_eval.specs.Sites.{IsNamed, IsOperand};
+ghost use Rattle.const_eval.specs.Sites.{IsOperand};
 ghost use Rattle.expr_sem.specs.Coders.{Codes, Keeps, SuitsPlace, frame_of, nodes_of};
 ghost use Rattle.expr_sem.specs.Coded.{value_code as spec_value, with_char as spec_char};
 ghost use Rattle.expr_sem.specs.Codings.{Coding, IsCoded, IsFragment, coded_in};
@@ -22,13 +20,13 @@ ghost use Rattle.type_rules.specs.Scenes.{IsThere, WhereTold};
 ghost use Rattle.type_rules.specs.Sites.{SuitsSite, context_of};
 
 use crate::answers::answered;
-use crate::chains::applied;
+use crate::chains::{applied, instr_behind};
 use crate::coded::{Coded, Placed};
 use crate::coder::Coder;
 use crate::fragments::{Connective, Fragment, Fragments};
 use crate::values::value_code;
 use code_form::Instr;
-use const_eval::{Argument, PlacedOperator, applied_one, char_or_same, operated};
+use const_eval::{Argument, PlacedOperator, applied_one, char_of_string, operated};
 use m2_base::{Ask, Memory, Notes, Operand, Operator, Place, RowMeaning, Scopes, Site};
 use type_rules::{INTEGER, base_of, operand_type, stand};
 
@@ -98,13 +96,6 @@ pub fn side_of<S: Scopes>(scopes: &mut S, site: &Site, of: Place) -> Ask<u8>
     Ask::Known(if base == INTEGER { 0 } else { 1 })
 }
 
-/// Whether a row is that of a set.
-fn is_set(meaning: RowMeaning) -> bool
-    ensures { result ≡ is_set_kind meaning }
-{
-    matches!(meaning, RowMeaning::Set(_))
-}
-
 /// The instruction of an operator, by its result's type and its right operand's.
 #[tactic(auto, using(type_rules::proofs::Reading::reading))]
 fn instruction<S: Scopes>(
@@ -124,32 +115,26 @@ fn instruction<S: Scopes>(
         instr ≡ two_instr c.scene op of right)) }
 {
     let (_, meaning) = known!(stand(scopes, site.around, right));
-    if is_set(meaning) {
-        return Ask::Known(set_instruction(op));
-    }
-    let side = known!(side_of(scopes, site, of));
-    Ask::Known(scalar_instruction(side, op))
-}
-
-/// The instruction of an operator before one operand; plus has none.
-fn sign(fragments: &mut Fragments, op: Operator) -> Result<Fragment, Memory>
-    ensures { IsMade fragments.old.nodes.items fragments.new.nodes.items result (plain (one_instr op)) }
-{
-    match op {
-        Operator::Not => fragments.one(Instr::Not),
-        Operator::Minus => fragments.one(Instr::Neg),
-        _ => Ok(Fragment::Nothing),
+    match meaning {
+        RowMeaning::Set(_) => Ask::Known(set_instruction(op)),
+        _ => {
+            let side = known!(side_of(scopes, site, of));
+            Ask::Known(scalar_instruction(side, op))
+        }
     }
 }
 
-/// A value, and then the operator that stands before it.
+/// A value, and then the operator that stands before it; plus has no instruction.
 fn signed(fragments: &mut Fragments, op: Operator, value: Fragment) -> Result<Fragment, Memory>
     requires { IsIn fragments.old.nodes.items value }
     ensures { IsMade fragments.old.nodes.items fragments.new.nodes.items result
         (part fragments.old.nodes.items value ⨟ plain (one_instr op)) }
 {
-    let last = sign(fragments, op)?;
-    fragments.then(value, last)
+    match op {
+        Operator::Not => instr_behind(value, Instr::Not, fragments),
+        Operator::Minus => instr_behind(value, Instr::Neg, fragments),
+        _ => fragments.then(value, Fragment::Nothing),
+    }
 }
 
 /// Two values, the right one skipped where the left one decides.
@@ -197,17 +182,6 @@ impl<S: Scopes> Coder<'_, '_, S> {
     }
 }
 
-/// A string of one character as a CHAR, anything else as it is.
-fn char_operand(site: &Site, operand: Operand) -> Operand
-    requires { IsNamed site.now.texts.now.names operand }
-    ensures told { (source : Source) → source.spellings ≡ site.now.texts.now.names
-        → result ≡ spec_same source operand }
-    ensures there { (f : Frame) → IsThere f character → IsOperand f operand → IsOperand f result }
-{
-    let texts = site.texts;
-    char_or_same(&texts.names, operand)
-}
-
 /// The code of a value, where a string of one character is a CHAR.
 #[tactic(auto, using(const_eval::proofs::TypesThere::there))]
 fn char_value<S: Scopes>(
@@ -222,7 +196,7 @@ fn char_value<S: Scopes>(
         fragments.old.nodes.items fragments.new.nodes.items site.now result IsFragment part
         (λ c. gives (spec_value c (spec_char c (coded_in fragments.old.nodes.items x)))) }
 {
-    let operand = char_operand(site, x.operand);
+    let operand = char_of_string(site, x.operand);
     value_code(scopes, site, x.taken(operand), fragments)
 }
 

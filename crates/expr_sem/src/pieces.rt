@@ -22,7 +22,7 @@ pub struct Piece {
 
 /// An open WITH: the type of its record, and the cell that has the record's address.
 /// In a list the innermost is the first.
-#[derive(Clone, Copy, Debug, PartialEq, Eq)]
+#[derive(Clone, Copy)]
 pub struct With {
     pub of: Place,
     pub cell: u32,

@@ -3,8 +3,7 @@ ghost use Rattle.std.specs.Prelude.{◌≡◌, ◌≢◌, None, option_map};
 ghost use Rattle.std.specs.Option.{IfSome};
 ghost use Rattle.m2_base.specs.Asks.{IfKnown, IfWaits};
 ghost use Rattle.m2_base.specs.Gives.{gives};
-ghost use Rattle.m2_base.specs.States.{Frame, Waits};
-ghost use Rattle.m2_base.specs.Rows.{HasSmallNumbers, row_meaning};
+ghost use Rattle.m2_base.specs.States.{Waits};
 ghost use Rattle.m2_base.specs.Statics.Lookup.{entry_in};
 ghost use Rattle.m2_base.specs.declared.notes.Notes.{Notes};
 ghost use Rattle.expr_sem.specs.Codings.{Coding, IsFragment};
@@ -12,21 +11,21 @@ ghost use Rattle.expr_sem.specs.Fragments.{part};
 ghost use Rattle.expr_sem.specs.ProcedureNames.{import_number as spec_import_number, import_of_target as spec_import};
 ghost use Rattle.expr_sem.specs.ProcedureNames.{is_foreign as spec_foreign, is_own as spec_own};
 ghost use Rattle.expr_sem.specs.ProcedureNames.{is_own_definition as spec_own_definition, procedure_code as spec_code};
-ghost use Rattle.expr_sem.specs.ProcedureNames.{target_by as spec_by, target_of_entry as spec_of_entry};
+ghost use Rattle.expr_sem.specs.ProcedureNames.{target_of_entry as spec_of_entry};
 ghost use Rattle.expr_sem.specs.ProcedureNames.{target_of_procedure as spec_target};
 ghost use Rattle.expr_sem.specs.Targets.{target_view};
 ghost use Rattle.type_rules.specs.Asks.{Reads, WhereKnown, WhereWaiting};
-ghost use Rattle.type_rules.specs.Scenes.{IsRowOf, IsThere, WhereTold, block_of, rows_of, scene_of};
+ghost use Rattle.type_rules.specs.Scenes.{IsThere, WhereTold, block_of, rows_of, scene_of};
 ghost use Rattle.type_rules.specs.Sites.{SuitsSite};
 
 use crate::answers::answered;
 use crate::fragments::{Fragment, Fragments};
 use crate::levels::level_of;
 use code_form::Instr;
-use m2_base::{Around, Ask, Memory, Place, Reply, Row, RowMeaning, Scopes, Site, read_row};
+use m2_base::{Around, Ask, Memory, Place, Reply, RowMeaning, Scopes, Site, read_row};
 
 /// A procedure as code names it: its type, and its number in its module.
-#[derive(Clone, Copy, Debug, PartialEq, Eq)]
+#[derive(Clone, Copy)]
 pub struct Target {
     pub of: Place,
     pub number: u32,
@@ -75,54 +74,6 @@ pub fn import_of_target(around: &Around, target: Target) -> u32
     }
 }
 
-/// The first row of the module's scope that has a name.
-#[tactic(auto, using(type_rules::proofs::Reading::reading))]
-fn own_entry<S: Scopes>(scopes: &mut S, site: &Site, name: u32) -> Ask<Option<(Place, Row)>>
-    requires suits { SuitsSite (S.state scopes.old).frame site.now }
-    requires named { name ≢ 0 }
-    requires statement { site.now.item ≡ None }
-    ensures reads { Reads (S.state scopes.old) (S.state scopes.new) }
-    ensures waits { WhereWaiting result (λ head. Waits (S.state scopes.old) (S.state scopes.new) head) }
-    ensures told { WhereTold (S.state scopes.old).frame (λ made.
-        WhereKnown result
-        (λ entry. entry ≡ entry_in (rows_of (S.state scopes.old).frame made) site.now.around.now.module name)) }
-    ensures row { WhereKnown result
-        (λ entry. IfSome entry (λ entry. IsRowOf (S.state scopes.old).frame entry.0 entry.1)) }
-{
-    match scopes.search(0, &[site.around.module], name) {
-        Reply::Found(place, row) => Ask::Known(Some((place, row))),
-        Reply::Absent => Ask::Known(None),
-        Reply::DontKnowYet(head) if head.scope == site.around.scope => Ask::Known(None),
-        Reply::DontKnowYet(head) => Ask::DontKnowYet(head),
-    }
-}
-
-/// The procedure that a row at a place declares.
-fn target_by(place: Place, row: &Row) -> Option<Target>
-    requires small { HasSmallNumbers (row_meaning row.now) }
-    ensures told { option_map target_view result ≡ spec_by (row_meaning row.now) }
-    ensures there { (f : Frame) → IsRowOf f place row.now → IfSome result (λ target. IsThere f target.of) }
-{
-    let _place = place.scope;
-    match read_row(row) {
-        RowMeaning::Proc(of, number, _) => Some(Target { of, number }),
-        _ => None,
-    }
-}
-
-/// The procedure that a name is declared as.
-fn target_of_entry(entry: Option<(Place, Row)>) -> Option<Target>
-    requires small { IfSome entry (λ entry. HasSmallNumbers (row_meaning entry.1)) }
-    ensures told { option_map target_view result ≡ spec_of_entry entry }
-    ensures there { (f : Frame) → IfSome entry (λ entry. IsRowOf f entry.0 entry.1)
-        → IfSome result (λ target. IsThere f target.of) }
-{
-    match entry {
-        Some((place, row)) => target_by(place, &row),
-        None => None,
-    }
-}
-
 /// The module's own procedure of a name.
 #[tactic(auto, using(type_rules::proofs::Reading::reading))]
 fn own_target<S: Scopes>(scopes: &mut S, site: &Site, name: u32) -> Ask<Option<Target>>
@@ -137,8 +88,15 @@ fn own_target<S: Scopes>(scopes: &mut S, site: &Site, name: u32) -> Ask<Option<T
     ensures there { WhereKnown result
         (λ given. IfSome given (λ target. IsThere (S.state scopes.old).frame target.of)) }
 {
-    let entry = known!(own_entry(scopes, site, name));
-    Ask::Known(target_of_entry(entry))
+    match scopes.search(0, &[site.around.module], name) {
+        Reply::Found(_, row) => match read_row(&row) {
+            RowMeaning::Proc(of, number, _) => Ask::Known(Some(Target { of, number })),
+            _ => Ask::Known(None),
+        },
+        Reply::Absent => Ask::Known(None),
+        Reply::DontKnowYet(head) if head.scope == site.around.scope => Ask::Known(None),
+        Reply::DontKnowYet(head) => Ask::DontKnowYet(head),
+    }
 }
 
 /// The procedure that code names for one of this name. A heading of the own definition is the module's own procedure

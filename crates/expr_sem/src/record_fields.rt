@@ -5,7 +5,6 @@ ghost use Rattle.m2_base.specs.Gives.{and_then, gives};
 ghost use Rattle.m2_base.specs.Lists.{Each};
 ghost use Rattle.m2_base.specs.Rows.{row_meaning};
 ghost use Rattle.m2_base.specs.States.{Waits, fills_of};
-ghost use Rattle.m2_base.specs.Statics.Types.{kind_of};
 ghost use Rattle.m2_base.specs.Statics.Uses.{use_of};
 ghost use Rattle.type_rules.specs.Asks.{Reads, WhereKnown, WhereWaiting};
 ghost use Rattle.type_rules.specs.Scenes.{IsThere, Suits, WhereTold, scene_of};
@@ -14,7 +13,7 @@ ghost use Rattle.expr_sem.specs.Codings.{IsCoded, coded_in, with_types};
 ghost use Rattle.expr_sem.specs.Fragments.{IsIn, IsMade, part};
 ghost use Rattle.expr_sem.specs.Parts.{◌⨟◌};
 ghost use Rattle.expr_sem.specs.RecordFields.{field_coded as spec_field_coded, name_coded as spec_name};
-ghost use Rattle.expr_sem.specs.RecordFields.{of_record as spec_of_record, offset_code as spec_offset};
+ghost use Rattle.expr_sem.specs.RecordFields.{offset_code as spec_offset};
 ghost use Rattle.expr_sem.specs.RecordFields.{select_field as spec_field};
 ghost use Rattle.expr_sem.specs.Selections.{IsField, with_number as spec_number};
 ghost use Rattle.expr_sem.specs.Variables.{entry_coded as spec_entry};
@@ -28,9 +27,7 @@ use crate::refusals::refused;
 use crate::variables::entry_coded;
 use code_form::Instr;
 use const_eval::is_broken;
-use m2_base::{
-    Around, Ask, Diagnostic, Ident, Memory, Operand, Place, Row, RowMeaning, Scopes, read_row,
-};
+use m2_base::{Around, Ask, Diagnostic, Ident, Memory, Operand, Row, RowMeaning, Scopes, read_row};
 use type_rules::{field_of, stand, use_name};
 
 /// The address of so many cells behind the one that this code gives; an offset of 0 is left out.
@@ -138,31 +135,6 @@ impl<S: Scopes> Coder<'_, '_, S> {
         }
     }
 
-    /// The field of a name in a variable of this type, whose address this code gives.
-    fn of_record(
-        &mut self,
-        at: u32,
-        of: Place,
-        ident: Ident,
-        code: Fragment,
-    ) -> Result<Ask<Coded>, Memory>
-        requires suits { SuitsPlace S.state self.old }
-        requires of { IsThere (frame_of S.state self.old) of }
-        requires code { IsIn (nodes_of self.old) code }
-        ensures keeps { Keeps self.old self.new }
-        ensures codes { Codes S.state self.old self.new result IsCoded coded_in
-            (λ c. spec_of_record c at (part (nodes_of self.old) code) ident of (kind_of c.scene of)) }
-    {
-        let (_, meaning) = asked!(stand(self.scopes, self.site.around, of));
-        let RowMeaning::Record(..) = meaning else {
-            return refused(self.site, at, Diagnostic::NotARecord, self.notes);
-        };
-        match asked!(field_of(self.scopes, self.site.around, of, ident.name)) {
-            Some(field) => self.field_coded(field, code),
-            None => refused(self.site, ident.at, Diagnostic::NoSuchField, self.notes),
-        }
-    }
-
     /// What a name behind a point selects. `first` is the designator's first token, `at` the point.
     pub(crate) fn select_field(
         &mut self,
@@ -180,7 +152,16 @@ impl<S: Scopes> Coder<'_, '_, S> {
     {
         match x.operand {
             Operand::ModuleName(scope) => self.name_used(Some(scope), ident),
-            Operand::Variable(of) => self.of_record(at, of, ident, x.code),
+            Operand::Variable(of) => {
+                let (_, meaning) = asked!(stand(self.scopes, self.site.around, of));
+                let RowMeaning::Record(..) = meaning else {
+                    return refused(self.site, at, Diagnostic::NotARecord, self.notes);
+                };
+                match asked!(field_of(self.scopes, self.site.around, of, ident.name)) {
+                    Some(field) => self.field_coded(field, x.code),
+                    None => refused(self.site, ident.at, Diagnostic::NoSuchField, self.notes),
+                }
+            }
             Operand::InError => Ok(Ask::Known(Coded::in_error())),
             Operand::NotConstant => Ok(Ask::Known(Coded::in_error())),
             _ => refused(self.site, first, Diagnostic::NotAVariable, self.notes),

@@ -1,12 +1,11 @@
 //! The element of INCL or EXCL, and how it changes a set.
-ghost use Rattle.std.specs.Prelude.{◌≡◌, List};
-ghost use Rattle.m2_base.specs.Gives.{gives};
+ghost use Rattle.std.specs.Prelude.{List};
+ghost use Rattle.m2_base.specs.Gives.{and_then, gives};
 ghost use Rattle.const_eval.specs.Sites.{IsOperand};
 ghost use Rattle.expr_sem.specs.Coders.{Codes, Keeps, SuitsPlace, frame_of, nodes_of};
 ghost use Rattle.expr_sem.specs.Codings.{Coding, IsCoded, coded_in};
 ghost use Rattle.expr_sem.specs.StandardProcedures.{element_of_base as spec_element, included as spec_included};
-ghost use Rattle.expr_sem.specs.StandardProcedures.{member_instrs, set_member as spec_member};
-ghost use Rattle.expr_sem.specs.Updates.{instrs_of};
+ghost use Rattle.expr_sem.specs.StandardProcedures.{set_member as spec_member};
 ghost use Rattle.expr_sem.specs.declared.fragments.Node.{Node};
 ghost use Rattle.type_rules.specs.Scenes.{IsThere};
 ghost use Rattle.type_rules.specs.Sites.{SuitsSite};
@@ -51,7 +50,7 @@ fn element_of_base<S: Scopes>(
 }
 
 /// The element by which a set is changed.
-pub fn set_member<S: Scopes>(
+fn set_member<S: Scopes>(
     scopes: &mut S,
     site: &Site,
     x: Coded,
@@ -73,36 +72,32 @@ pub fn set_member<S: Scopes>(
     element_of_base(scopes, site, base, Placed { at: e.at, coded: v }, notes)
 }
 
-/// The change of INCL, and of EXCL.
-fn member_change(f: Builtin) -> Change
-    ensures { instrs_of result ≡ member_instrs f }
-{
-    let second = match f {
-        Builtin::Incl => Instr::Union,
-        _ => Instr::Diff,
-    };
-    Change {
-        first: Instr::Bit,
-        second: Some(second),
-    }
-}
-
 impl<S: Scopes> Coder<'_, '_, S> {
     /// INCL or EXCL of a set and an element, unless one of them is in error.
-    pub(crate) fn included(&mut self, f: Builtin, x: Coded, e: Coded) -> Result<Ask<Coded>, Memory>
+    pub(crate) fn included(&mut self, f: Builtin, x: Coded, e: Placed) -> Result<Ask<Coded>, Memory>
         requires suits { SuitsPlace S.state self.old }
         requires x { IsCoded (frame_of S.state self.old) (nodes_of self.old) x }
-        requires e { IsCoded (frame_of S.state self.old) (nodes_of self.old) e }
+        requires e { IsCoded (frame_of S.state self.old) (nodes_of self.old) e.coded }
         ensures keeps { Keeps self.old self.new }
         ensures codes { Codes S.state self.old self.new result IsCoded coded_in
-            (λ c. gives (spec_included c f (coded_in (nodes_of self.old) x) (coded_in (nodes_of self.old) e))) }
+            (λ c. and_then (spec_member c (coded_in (nodes_of self.old) x) e.at (coded_in (nodes_of self.old) e.coded))
+            (λ v. gives (spec_included c f (coded_in (nodes_of self.old) x) v))) }
     {
-        if either_bad(x.operand, e.operand) {
+        let v = analysed!(set_member(self.scopes, self.site, x, e, self.notes));
+        if either_bad(x.operand, v.operand) {
             return Ok(Ask::Known(Coded::in_error()));
         }
         let base = asked!(set_base(self.scopes, self.site, operand_type(&x.operand)));
-        let element = analysed!(fitted_code(self.scopes, self.site, base, e, self.fragments));
-        let code = updated(x.code, element, member_change(f), self.fragments)?;
+        let element = analysed!(fitted_code(self.scopes, self.site, base, v, self.fragments));
+        let second = match f {
+            Builtin::Incl => Instr::Union,
+            _ => Instr::Diff,
+        };
+        let change = Change {
+            first: Instr::Bit,
+            second: Some(second),
+        };
+        let code = updated(x.code, element, change, self.fragments)?;
         Ok(Ask::Known(Coded::new(NO_VALUE, code)))
     }
 }

@@ -1,5 +1,5 @@
 //! The parameters and the result of a procedure type, and the cells of arguments.
-ghost use Rattle.std.specs.Prelude.{◌≡◌, ◌+◌, ◌==◌, [], if◌then◌else◌, IfOk, is_some, length, map};
+ghost use Rattle.std.specs.Prelude.{◌≡◌, ◌==◌, is_some, length, map};
 ghost use Rattle.m2_base.specs.Asks.{IfKnown, IfWaits};
 ghost use Rattle.m2_base.specs.Lists.{Each};
 ghost use Rattle.m2_base.specs.States.{Waits};
@@ -22,27 +22,24 @@ pub struct Signature {
     pub result: Option<Place>,
 }
 
-impl Signature {
-    /// Whether a call gives a value.
-    pub fn gives_value(&self) -> bool
-        ensures { result ≡ is_some self.now.result }
-    {
-        self.result.is_some()
-    }
-
-    /// Whether there are so many parameters.
-    pub fn takes(&self, count: usize) -> bool
-        ensures { result ≡ (count == length (map parameter_view self.now.params.items)) }
-    {
-        count == self.params.len()
-    }
+/// How what is called suits a call: whether it gives a value, and whether it takes so many arguments.
+#[derive(Clone, Copy)]
+pub struct Suiting {
+    pub gives_value: bool,
+    pub is_count: bool,
 }
 
-/// No parameters yet.
-fn no_parameters(texts: &Texts) -> Vec<Parameter>
-    ensures { result.items ≡ [] }
-{
-    Vec::new(*texts.order.allocator())
+impl Signature {
+    /// How what has it suits a call with so many arguments.
+    pub fn suiting(&self, count: usize) -> Suiting
+        ensures gives_value { result.gives_value ≡ is_some self.now.result }
+        ensures is_count { result.is_count ≡ (count == length (map parameter_view self.now.params.items)) }
+    {
+        Suiting {
+            gives_value: self.result.is_some(),
+            is_count: count == self.params.len(),
+        }
+    }
 }
 
 /// The parameters of a procedure type.
@@ -62,7 +59,7 @@ fn parameters_of<S: Scopes>(
         ≡ parameters_from (scene_of (S.state scopes.old).frame made around.now) form.of form.first)) }
     ensures there { IfKnown result (λ params. Each (λ p. IsThere (S.state scopes.old).frame p.of) params.items) }
 {
-    let mut params = no_parameters(texts);
+    let mut params = Vec::new(*texts.order.allocator());
     let mut start = form.first;
     'parameters: loop {
         match asked!(next_parameter(scopes, around, form.of, start)) {
@@ -113,28 +110,19 @@ pub fn signature_of<S: Scopes>(
         (λ signature. IsSignatureOf (scene_of (S.state scopes.old).frame made site.now.around.now) of signature)) }
     ensures there { IfKnown result (λ signature. IsSignature (S.state scopes.old).frame signature) }
 {
+    let texts = site.texts;
     match form_of(scopes, site.around, of) {
         Ask::Known(Some(form)) => signature_by(scopes, site, form),
         Ask::Known(None) => Ok(Ask::Known(Signature {
-            params: no_parameters(site.texts),
+            params: Vec::new(*texts.order.allocator()),
             result: None,
         })),
         Ask::DontKnowYet(head) => Ok(Ask::DontKnowYet(head)),
     }
 }
 
-/// The cells of an argument more; an open array has two. Where that is no number any more, memory is wanted.
-fn more_cells(cells: u64, is_open: bool) -> Result<u64, Memory>
-    ensures { IfOk result (λ all. all ≡ cells + (if is_open then 2 else 1)) }
-{
-    let own = if is_open { 2 } else { 1 };
-    match cells.checked_add(own) {
-        Some(all) => Ok(all),
-        None => Err(Memory),
-    }
-}
-
-/// The cells of the arguments of these parameters.
+/// The cells of the arguments of these parameters; an open array has two. Where that is no number any more, memory is
+/// wanted.
 #[tactic(auto, using(type_rules::proofs::Reading::reading))]
 pub fn cells_of_all<S: Scopes>(
     scopes: &mut S,
@@ -152,7 +140,11 @@ pub fn cells_of_all<S: Scopes>(
     let mut cells: u64 = 0;
     for number in 0..params.len() {
         let is_open = asked!(is_open_array(scopes, around, params[number].of));
-        cells = more_cells(cells, is_open)?;
+        let own = if is_open { 2 } else { 1 };
+        let Some(all) = cells.checked_add(own) else {
+            return Err(Memory);
+        };
+        cells = all;
     }
     Ok(Ask::Known(cells))
 }

@@ -8,7 +8,7 @@ ghost use Rattle.m2_base.specs.Standard.{cardinal};
 ghost use Rattle.m2_base.specs.Statics.Ranges.{range};
 ghost use Rattle.m2_base.specs.declared.notes.Notes.{Notes as NotesOf};
 ghost use Rattle.m2_base.specs.declared.operands.Operand.TheVariants as operands;
-ghost use Rattle.const_eval.specs.Calls.{of_type, of_value as spec_of_value};
+ghost use Rattle.const_eval.specs.Calls.{of_type};
 ghost use Rattle.const_eval.specs.Sites.{IsOperand};
 ghost use Rattle.const_eval.specs.declared.calls.TypeFunction.TheVariants as functions;
 ghost use Rattle.expr_sem.specs.Coders.{Codes, Keeps, SuitsPlace, frame_of, nodes_of};
@@ -18,17 +18,14 @@ ghost use Rattle.expr_sem.specs.Fragments.{part};
 ghost use Rattle.expr_sem.specs.Kinds.{IsKindHere};
 ghost use Rattle.expr_sem.specs.Operators.{made as spec_made};
 ghost use Rattle.expr_sem.specs.StandardFunctions.{as_variable as spec_variable, function_of_one as spec_one};
-ghost use Rattle.expr_sem.specs.StandardFunctions.{high_code as spec_high, high_of as spec_high_of};
-ghost use Rattle.expr_sem.specs.StandardFunctions.{high_of_range as spec_range};
-ghost use Rattle.expr_sem.specs.StandardFunctions.{high_of_variable as spec_high_variable, on_value as spec_on_value};
-ghost use Rattle.expr_sem.specs.StandardFunctions.{size_code as spec_size, value_of_type as spec_value};
-ghost use Rattle.expr_sem.specs.ValueFunctions.{code_of};
+ghost use Rattle.expr_sem.specs.StandardFunctions.{high_code as spec_high};
+ghost use Rattle.expr_sem.specs.StandardFunctions.{high_of_range as spec_range, high_of_variable as spec_high_variable};
+ghost use Rattle.expr_sem.specs.StandardFunctions.{size_code as spec_size};
 ghost use Rattle.expr_sem.specs.declared.fragments.Node.{Node};
-ghost use Rattle.expr_sem.specs.declared.value_functions.Rule.TheVariants as rules;
 ghost use Rattle.type_rules.specs.Sites.{SuitsSite};
 
 use crate::answers::answered;
-use crate::coded::{Coded, Placed};
+use crate::coded::Coded;
 use crate::coder::Coder;
 use crate::elements::high_or_none;
 use crate::fragments::{Fragment, Fragments};
@@ -95,42 +92,13 @@ fn high_computed<S: Scopes>(
     Ok(Ask::Known(Coded::new(Operand::Computed(CARDINAL), code)))
 }
 
-impl<S: Scopes> Coder<'_, '_, S> {
-    /// HIGH of a variable, by the meaning of its type.
-    fn high_of(&mut self, at: u32, x: Coded, kind: RowMeaning) -> Result<Ask<Coded>, Memory>
-        requires suits { SuitsPlace S.state self.old }
-        requires x { IsCoded (frame_of S.state self.old) (nodes_of self.old) x }
-        requires kind { IsKindHere (frame_of S.state self.old) kind }
-        ensures keeps { Keeps self.old self.new }
-        ensures codes { Codes S.state self.old self.new result IsCoded coded_in
-            (λ c. spec_high_of c at (coded_in (nodes_of self.old) x) kind) }
-    {
-        match kind {
-            RowMeaning::Array(index, _, _) => {
-                if asked!(is_broken(self.scopes, self.site.around, index)) {
-                    return Ok(Ask::Known(Coded::in_error()));
-                }
-                high_computed(self.scopes, self.site, x, kind, self.fragments)
-            }
-            RowMeaning::OpenArray(_) => high_computed(
-                self.scopes,
-                self.site,
-                x,
-                kind,
-                self.fragments,
-            ),
-            _ => refused(self.site, at, Diagnostic::WrongArgument, self.notes),
-        }
-    }
-}
-
 /// The ordinal of a place has 32 bits.
 pub fn has_small_ordinal(place: Place)
     ensures { place.ordinal < 2 ^ 32 }
 {}
 
 impl<S: Scopes> Coder<'_, '_, S> {
-    /// HIGH.
+    /// HIGH of a variable, by the meaning of its type.
     fn high(&mut self, at: u32, x: Coded) -> Result<Ask<Coded>, Memory>
         requires suits { SuitsPlace S.state self.old }
         requires x { IsCoded (frame_of S.state self.old) (nodes_of self.old) x }
@@ -144,11 +112,24 @@ impl<S: Scopes> Coder<'_, '_, S> {
         }
         let (place, kind) = asked!(stand(self.scopes, self.site.around, operand_type(&v.operand)));
         has_small_ordinal(place);
-        self.high_of(at, v, kind)
+        match kind {
+            RowMeaning::Array(index, _, _) => {
+                if asked!(is_broken(self.scopes, self.site.around, index)) {
+                    return Ok(Ask::Known(Coded::in_error()));
+                }
+                high_computed(self.scopes, self.site, v, kind, self.fragments)
+            }
+            RowMeaning::OpenArray(_) => high_computed(
+                self.scopes,
+                self.site,
+                v,
+                kind,
+                self.fragments,
+            ),
+            _ => refused(self.site, at, Diagnostic::WrongArgument, self.notes),
+        }
     }
-}
 
-impl<S: Scopes> Coder<'_, '_, S> {
     /// SIZE.
     fn size(&mut self, at: u32, x: Coded) -> Result<Ask<Coded>, Memory>
         requires suits { SuitsPlace S.state self.old }
@@ -193,17 +174,6 @@ fn of_type_coded<S: Scopes>(
 }
 
 impl<S: Scopes> Coder<'_, '_, S> {
-    /// A function of a value, of which a value is wanted.
-    fn of_value(&mut self, function: ValueFunction, at: u32, x: Coded) -> Result<Ask<Coded>, Memory>
-        requires suits { SuitsPlace S.state self.old }
-        requires x { IsCoded (frame_of S.state self.old) (nodes_of self.old) x }
-        ensures keeps { Keeps self.old self.new }
-        ensures codes { Codes S.state self.old self.new result IsCoded coded_in (λ c. spec_on_value c at
-            (coded_in (nodes_of self.old) x) (spec_of_value c function at) (code_of c (rules.Function function))) }
-    {
-        self.on_value(Rule::Function(function), at, x)
-    }
-
     /// A function of one argument; of other standard procedures nobody asks.
     pub(crate) fn function_of_one(
         &mut self,
@@ -218,11 +188,11 @@ impl<S: Scopes> Coder<'_, '_, S> {
             (λ c. spec_one c f at (coded_in (nodes_of self.old) x)) }
     {
         match f {
-            Builtin::Abs => self.of_value(ValueFunction::Abs, at, x),
-            Builtin::Cap => self.of_value(ValueFunction::Cap, at, x),
-            Builtin::Chr => self.of_value(ValueFunction::Chr, at, x),
-            Builtin::Odd => self.of_value(ValueFunction::Odd, at, x),
-            Builtin::Ord => self.of_value(ValueFunction::Ord, at, x),
+            Builtin::Abs => self.on_value(Rule::Function(ValueFunction::Abs), at, x),
+            Builtin::Cap => self.on_value(Rule::Function(ValueFunction::Cap), at, x),
+            Builtin::Chr => self.on_value(Rule::Function(ValueFunction::Chr), at, x),
+            Builtin::Odd => self.on_value(Rule::Function(ValueFunction::Odd), at, x),
+            Builtin::Ord => self.on_value(Rule::Function(ValueFunction::Ord), at, x),
             Builtin::Min => of_type_coded(
                 self.scopes,
                 self.site,
@@ -247,21 +217,5 @@ impl<S: Scopes> Coder<'_, '_, S> {
             Builtin::High => self.high(at, x),
             _ => Ok(Ask::Known(Coded::in_error())),
         }
-    }
-
-    /// VAL, of a type and a value.
-    pub(crate) fn value_of_type(&mut self, of: Placed, x: Placed) -> Result<Ask<Coded>, Memory>
-        requires suits { SuitsPlace S.state self.old }
-        requires of { IsCoded (frame_of S.state self.old) (nodes_of self.old) of.coded }
-        requires x { IsCoded (frame_of S.state self.old) (nodes_of self.old) x.coded }
-        ensures keeps { Keeps self.old self.new }
-        ensures codes { Codes S.state self.old self.new result IsCoded coded_in (λ c.
-            spec_value c of.at (coded_in (nodes_of self.old) of.coded) x.at (coded_in (nodes_of self.old) x.coded)) }
-    {
-        let rule = Rule::Val(Argument {
-            at: of.at,
-            operand: of.coded.operand,
-        });
-        self.on_value(rule, x.at, x.coded)
     }
 }

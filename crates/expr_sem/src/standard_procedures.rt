@@ -7,10 +7,10 @@ ghost use Rattle.m2_base.specs.declared.sites.Site.{Site as SiteOf};
 ghost use Rattle.expr_sem.specs.Coders.{Codes, Keeps, SuitsPlace, frame_of, nodes_of};
 ghost use Rattle.expr_sem.specs.Coded.{coded};
 ghost use Rattle.expr_sem.specs.Codings.{Coding, IsCoded, coded_in};
-ghost use Rattle.expr_sem.specs.StandardProcedures.{first_of_two as spec_first, included as spec_included};
+ghost use Rattle.expr_sem.specs.StandardProcedures.{first_of_two as spec_first};
 ghost use Rattle.expr_sem.specs.StandardProcedures.{is_function as spec_function, of_no_argument as spec_none};
 ghost use Rattle.expr_sem.specs.StandardProcedures.{of_one_argument as spec_one, of_two_arguments as spec_two, one};
-ghost use Rattle.expr_sem.specs.StandardProcedures.{ordinal_variable, set_member as spec_member};
+ghost use Rattle.expr_sem.specs.StandardProcedures.{ordinal_variable};
 ghost use Rattle.expr_sem.specs.StandardProcedures.{step_number as spec_number, stepped as spec_stepped};
 ghost use Rattle.expr_sem.specs.StandardProcedures.{takes_count as spec_count};
 ghost use Rattle.type_rules.specs.Sites.{SuitsSite};
@@ -19,11 +19,12 @@ use crate::coded::{Coded, Placed};
 use crate::coder::Coder;
 use crate::fragments::Fragments;
 use crate::rooms::{disposed, new_room};
-use crate::set_members::set_member;
 use crate::step_numbers::step_number;
 use crate::updates::NO_VALUE;
+use crate::value_functions::Rule;
 use crate::variable_arguments::{Wanted, variable_argument};
 use code_form::Instr;
+use const_eval::Argument;
 use m2_base::{Ask, Builtin, Memory, Operand, Scopes};
 use type_rules::WHOLE;
 
@@ -192,20 +193,6 @@ impl<S: Scopes> Coder<'_, '_, S> {
         self.stepped(f, x, v)
     }
 
-    /// INCL or EXCL of a set and an element.
-    fn included_element(&mut self, f: Builtin, x: Coded, e: Placed) -> Result<Ask<Coded>, Memory>
-        requires suits { SuitsPlace S.state self.old }
-        requires x { IsCoded (frame_of S.state self.old) (nodes_of self.old) x }
-        requires e { IsCoded (frame_of S.state self.old) (nodes_of self.old) e.coded }
-        ensures keeps { Keeps self.old self.new }
-        ensures codes { Codes S.state self.old self.new result IsCoded coded_in
-            (λ c. and_then (spec_member c (coded_in (nodes_of self.old) x) e.at (coded_in (nodes_of self.old) e.coded))
-            (λ v. gives (spec_included c f (coded_in (nodes_of self.old) x) v))) }
-    {
-        let v = analysed!(set_member(self.scopes, self.site, x, e, self.notes));
-        self.included(f, x, v)
-    }
-
     /// A standard procedure of two arguments, of which the first is as `first_of_two` gives it; of others nobody asks.
     pub(crate) fn of_two_arguments(
         &mut self,
@@ -223,9 +210,15 @@ impl<S: Scopes> Coder<'_, '_, S> {
         match f {
             Builtin::Inc => self.stepped_by_number(Builtin::Inc, x.coded, y),
             Builtin::Dec => self.stepped_by_number(Builtin::Dec, x.coded, y),
-            Builtin::Incl => self.included_element(Builtin::Incl, x.coded, y),
-            Builtin::Excl => self.included_element(Builtin::Excl, x.coded, y),
-            Builtin::Val => self.value_of_type(x, y),
+            Builtin::Incl => self.included(Builtin::Incl, x.coded, y),
+            Builtin::Excl => self.included(Builtin::Excl, x.coded, y),
+            Builtin::Val => {
+                let rule = Rule::Val(Argument {
+                    at: x.at,
+                    operand: x.coded.operand,
+                });
+                self.on_value(rule, y.at, y.coded)
+            }
             _ => Ok(Ask::Known(Coded::in_error())),
         }
     }

@@ -6,7 +6,6 @@ ghost use Rattle.m2_base.specs.Statics.Types.{base_of as spec_base};
 ghost use Rattle.const_eval.specs.Sites.{IsOperand};
 ghost use Rattle.expr_sem.specs.Codings.{Coding, IsCoded, coded_in};
 ghost use Rattle.expr_sem.specs.StandardProcedures.{is_step as spec_is_step, step_number as spec_step_number};
-ghost use Rattle.expr_sem.specs.StandardProcedures.{step_type as spec_step_type};
 ghost use Rattle.expr_sem.specs.declared.fragments.Node.{Node};
 ghost use Rattle.type_rules.specs.Asks.{Reads, WhereKnown, WhereWaiting};
 ghost use Rattle.type_rules.specs.Scenes.{IsThere, Suits, WhereTold, scene_of};
@@ -18,27 +17,6 @@ use crate::updates::either_bad;
 use crate::values::{as_value, in_range};
 use m2_base::{Around, Ask, Diagnostic, Memory, Notes, Operand, Place, Scopes, Site};
 use type_rules::{CARDINAL, WHOLE, base_of, is_integer_or_cardinal, operand_type};
-
-/// The type of the number by which a variable of a type is changed: its base, where that is a type of numbers, or else
-/// CARDINAL.
-#[tactic(auto, using(type_rules::proofs::Reading::reading, const_eval::proofs::TypesThere::there))]
-fn step_type<S: Scopes>(scopes: &mut S, site: &Site, of: Place) -> Ask<Place>
-    requires suits { SuitsSite (S.state scopes.old).frame site.now }
-    requires of { IsThere (S.state scopes.old).frame of }
-    ensures reads { Reads (S.state scopes.old) (S.state scopes.new) }
-    ensures waits { WhereWaiting result (λ head. Waits (S.state scopes.old) (S.state scopes.new) head) }
-    ensures told { WhereTold (S.state scopes.old).frame (λ made.
-        WhereKnown result
-        (λ want. want ≡ spec_step_type (context_of (S.state scopes.old).frame made site.now).scene of)) }
-    ensures there { WhereKnown result (λ want. IsThere (S.state scopes.old).frame want) }
-{
-    let base = known!(base_of(scopes, site.around, of));
-    if is_integer_or_cardinal(base) {
-        Ask::Known(base)
-    } else {
-        Ask::Known(CARDINAL)
-    }
-}
 
 /// Whether a type has this base.
 #[tactic(auto, using(type_rules::proofs::Reading::reading))]
@@ -77,9 +55,9 @@ fn is_step<S: Scopes>(scopes: &mut S, site: &Site, want: Place, operand: Operand
     }
 }
 
-/// The number by which a variable is changed: of the type that `step_type` gives, or a whole constant, and a constant
-/// lies in the range of that type. Where the variable or the number is in error, nothing more is noted, and the
-/// number is in error.
+/// The number by which a variable is changed: of the variable's base, where that is a type of numbers, or else of
+/// CARDINAL; or a whole constant. A constant lies in the range of that type. Where the variable or the number is in
+/// error, nothing more is noted, and the number is in error.
 pub fn step_number<S: Scopes>(
     scopes: &mut S,
     site: &Site,
@@ -98,7 +76,12 @@ pub fn step_number<S: Scopes>(
     if either_bad(x.operand, v.operand) {
         return Ok(Ask::Known(Coded::in_error()));
     }
-    let want = asked!(step_type(scopes, site, operand_type(&x.operand)));
+    let base = asked!(base_of(scopes, site.around, operand_type(&x.operand)));
+    let want = if is_integer_or_cardinal(base) {
+        base
+    } else {
+        CARDINAL
+    };
     let holds = asked!(is_step(scopes, site, want, v.operand));
     if holds {
         in_range(scopes, site, want, Placed { at: n.at, coded: v }, notes)

@@ -7,7 +7,7 @@ ghost use Rattle.expr_sem.specs.Parts.{plain_step};
 use code_form::{Effect, Instr};
 
 /// An instruction, the number of operands that it takes, and the number that it leaves.
-#[derive(Clone, Copy, Debug, PartialEq, Eq)]
+#[derive(Clone, Copy)]
 pub struct Step {
     pub instr: Instr,
     pub takes: u64,

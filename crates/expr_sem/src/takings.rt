@@ -1,11 +1,10 @@
 //! What becomes of a value for a variable of a type.
-ghost use Rattle.std.specs.Prelude.{◌≡◌, ◌||◌};
+ghost use Rattle.std.specs.Prelude.{◌≡◌};
 ghost use Rattle.m2_base.specs.States.{Waits};
 ghost use Rattle.m2_base.specs.Statics.Assignable.{taken_into as spec_taken_into};
-ghost use Rattle.m2_base.specs.Statics.Types.{is_broken as spec_broken, kind_of};
 ghost use Rattle.const_eval.specs.Sites.{IsOperand};
-ghost use Rattle.expr_sem.specs.Takings.{IsTaking, taken_or_refused as spec_taken_or_refused, taking as spec_taking};
-ghost use Rattle.expr_sem.specs.Values.{has_broken_part as spec_broken_part, is_passed_over as spec_passed_over};
+ghost use Rattle.expr_sem.specs.Takings.{IsTaking, taking as spec_taking};
+ghost use Rattle.expr_sem.specs.Values.{is_passed_over as spec_passed_over};
 ghost use Rattle.type_rules.specs.Asks.{Reads, WhereKnown, WhereWaiting};
 ghost use Rattle.type_rules.specs.Scenes.{IsThere, Suits, WhereTold, scene_of};
 ghost use Rattle.type_rules.specs.Sites.{SuitsSite, context_of};
@@ -15,7 +14,7 @@ use m2_base::{Around, Ask, Operand, Place, RowMeaning, Scopes, Site};
 use type_rules::{CHARACTER, assignable, base_of, is_one_char, is_string, stand};
 
 /// What becomes of a value for a variable.
-#[derive(Clone, Copy, Debug, PartialEq, Eq)]
+#[derive(Clone, Copy)]
 pub enum Taking {
     /// Nothing is said of it, and it is in error.
     PassedOver,
@@ -25,43 +24,8 @@ pub enum Taking {
     Taken(Operand),
 }
 
-/// Whether one of two types is in error.
-#[tactic(auto, using(type_rules::proofs::Reading::reading))]
-fn is_either_broken<S: Scopes>(scopes: &mut S, around: &Around, x: Place, y: Place) -> Ask<bool>
-    requires suits { Suits (S.state scopes.old).frame around.now }
-    requires x { IsThere (S.state scopes.old).frame x }
-    requires y { IsThere (S.state scopes.old).frame y }
-    ensures reads { Reads (S.state scopes.old) (S.state scopes.new) }
-    ensures waits { WhereWaiting result (λ head. Waits (S.state scopes.old) (S.state scopes.new) head) }
-    ensures told { WhereTold (S.state scopes.old).frame (λ made.
-        WhereKnown result (λ holds. let scene = scene_of (S.state scopes.old).frame made around.now in
-        holds ≡ (spec_broken scene x || spec_broken scene y))) }
-{
-    if known!(is_broken(scopes, around, x)) {
-        return Ask::Known(true);
-    }
-    is_broken(scopes, around, y)
-}
-
-/// Whether a type is an array whose index type or element type is in error.
-#[tactic(auto, using(type_rules::proofs::Reading::reading))]
-fn has_broken_part<S: Scopes>(scopes: &mut S, around: &Around, of: Place) -> Ask<bool>
-    requires suits { Suits (S.state scopes.old).frame around.now }
-    requires of { IsThere (S.state scopes.old).frame of }
-    ensures reads { Reads (S.state scopes.old) (S.state scopes.new) }
-    ensures waits { WhereWaiting result (λ head. Waits (S.state scopes.old) (S.state scopes.new) head) }
-    ensures told { WhereTold (S.state scopes.old).frame (λ made.
-        WhereKnown result (λ holds. let scene = scene_of (S.state scopes.old).frame made around.now in
-        holds ≡ spec_broken_part scene (kind_of scene of))) }
-{
-    let (_, meaning) = known!(stand(scopes, around, of));
-    match meaning {
-        RowMeaning::Array(index, element, _) => is_either_broken(scopes, around, index, element),
-        _ => Ask::Known(false),
-    }
-}
-
-/// Whether nothing is said of a value for a variable of a type: one of them is in error.
+/// Whether nothing is said of a value for a variable of a type: one of them is in error, or the value is a string and
+/// the variable's index type or element type is.
 #[tactic(auto, using(type_rules::proofs::Reading::reading))]
 fn is_passed_over<S: Scopes>(
     scopes: &mut S,
@@ -83,10 +47,18 @@ fn is_passed_over<S: Scopes>(
     if known!(is_broken(scopes, around, to)) {
         return Ask::Known(true);
     }
-    if is_string(&operand) {
-        has_broken_part(scopes, around, to)
-    } else {
-        Ask::Known(false)
+    if !is_string(&operand) {
+        return Ask::Known(false);
+    }
+    let (_, meaning) = known!(stand(scopes, around, to));
+    match meaning {
+        RowMeaning::Array(index, element, _) => {
+            if known!(is_broken(scopes, around, index)) {
+                return Ask::Known(true);
+            }
+            is_broken(scopes, around, element)
+        }
+        _ => Ask::Known(false),
     }
 }
 
@@ -114,31 +86,6 @@ fn taken_into<S: Scopes>(scopes: &mut S, site: &Site, to: Place, operand: Operan
     }
 }
 
-/// What a variable of a type takes, of what isn't passed over.
-#[tactic(auto, using(type_rules::proofs::Reading::reading, const_eval::proofs::TypesThere::there))]
-fn taken_or_refused<S: Scopes>(
-    scopes: &mut S,
-    site: &Site,
-    to: Place,
-    operand: Operand,
-) -> Ask<Taking>
-    requires suits { SuitsSite (S.state scopes.old).frame site.now }
-    requires to { IsThere (S.state scopes.old).frame to }
-    requires operand { IsOperand (S.state scopes.old).frame operand }
-    ensures reads { Reads (S.state scopes.old) (S.state scopes.new) }
-    ensures waits { WhereWaiting result (λ head. Waits (S.state scopes.old) (S.state scopes.new) head) }
-    ensures told { WhereTold (S.state scopes.old).frame (λ made.
-        WhereKnown result
-        (λ given. given ≡ spec_taken_or_refused (context_of (S.state scopes.old).frame made site.now) to operand)) }
-    ensures there { WhereKnown result (λ given. IsTaking (S.state scopes.old).frame given) }
-{
-    if !known!(assignable(scopes, site.around, to, &operand)) {
-        return Ask::Known(Taking::Refused);
-    }
-    let taken = known!(taken_into(scopes, site, to, operand));
-    Ask::Known(Taking::Taken(taken))
-}
-
 /// What becomes of a value for a variable of a type.
 #[tactic(auto, using(type_rules::proofs::Reading::reading, const_eval::proofs::TypesThere::there))]
 pub fn taking_of<S: Scopes>(scopes: &mut S, site: &Site, to: Place, operand: Operand) -> Ask<Taking>
@@ -155,5 +102,9 @@ pub fn taking_of<S: Scopes>(scopes: &mut S, site: &Site, to: Place, operand: Ope
     if known!(is_passed_over(scopes, site.around, to, operand)) {
         return Ask::Known(Taking::PassedOver);
     }
-    taken_or_refused(scopes, site, to, operand)
+    if !known!(assignable(scopes, site.around, to, &operand)) {
+        return Ask::Known(Taking::Refused);
+    }
+    let taken = known!(taken_into(scopes, site, to, operand));
+    Ask::Known(Taking::Taken(taken))
 }

@@ -9,7 +9,7 @@ ghost use Rattle.expr_sem.specs.Codings.{IsCoded, coded_in};
 ghost use Rattle.expr_sem.specs.Fitting.{check_of};
 ghost use Rattle.expr_sem.specs.Fragments.{IsIn, IsMade, part};
 ghost use Rattle.expr_sem.specs.Parts.{plain};
-ghost use Rattle.expr_sem.specs.StandardProcedures.{counting_range as spec_counting, step_instr as spec_step_instr};
+ghost use Rattle.expr_sem.specs.StandardProcedures.{counting_range as spec_counting};
 ghost use Rattle.expr_sem.specs.StandardProcedures.{step_instrs as spec_step_instrs, stepped as spec_stepped};
 ghost use Rattle.expr_sem.specs.Updates.{instrs_of, second_of, updated_by};
 ghost use Rattle.type_rules.specs.Asks.{Reads, WhereKnown, WhereWaiting};
@@ -34,7 +34,7 @@ use type_rules::{BROKEN, operand_type, range_of};
 pub const NO_VALUE: Operand = Operand::Computed(BROKEN);
 
 /// One or two instructions that change a value by what stands on top of it.
-#[derive(Clone, Copy, Debug, PartialEq, Eq)]
+#[derive(Clone, Copy)]
 pub struct Change {
     pub first: Instr,
     pub second: Option<Instr>,
@@ -74,16 +74,6 @@ pub fn updated(
     fragments.then(variable, rest)
 }
 
-/// The instruction of INC, and of DEC.
-fn step_instr(f: Builtin, side: u8) -> Instr
-    ensures { result ≡ spec_step_instr f side }
-{
-    match f {
-        Builtin::Inc => Instr::Add(side),
-        _ => Instr::Sub(side),
-    }
-}
-
 /// The least and the greatest of what a number of this side can be.
 fn counting_range(side: u8) -> (i64, i64)
     ensures { range result.0 result.1 ≡ spec_counting side }
@@ -118,10 +108,17 @@ fn step_change<S: Scopes>(scopes: &mut S, site: &Site, f: Builtin, of: Place) ->
 {
     let side = known!(side_of(scopes, site, of));
     let ends = known!(range_of(scopes, site.around, of));
-    Ask::Known(Change {
-        first: step_instr(f, side),
-        second: check_within(counting_range(side), ends),
-    })
+    let second = check_within(counting_range(side), ends);
+    match f {
+        Builtin::Inc => Ask::Known(Change {
+            first: Instr::Add(side),
+            second,
+        }),
+        _ => Ask::Known(Change {
+            first: Instr::Sub(side),
+            second,
+        }),
+    }
 }
 
 /// Whether one of two operands takes part in no further check.

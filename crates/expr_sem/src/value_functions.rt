@@ -78,7 +78,7 @@ fn rule_noted<S: Scopes>(
 }
 
 /// What stands behind the value of an argument.
-#[derive(Clone, Copy, Debug, PartialEq, Eq)]
+#[derive(Clone, Copy)]
 pub enum Ending {
     Nothing,
     Magnitude,

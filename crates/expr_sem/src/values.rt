@@ -1,21 +1,18 @@
 //! What stands where a value is wanted, the code of a value, and which value a variable of a type takes.
-ghost use Rattle.std.specs.Prelude.{◌≡◌, ◌<◌, List, length, option_map, IfOk};
+ghost use Rattle.std.specs.Prelude.{◌≡◌, ◌<◌, List, length, IfOk};
 ghost use Rattle.m2_base.specs.Gives.{gives};
 ghost use Rattle.m2_base.specs.States.{State, Waits};
 ghost use Rattle.m2_base.specs.Statics.Contexts.{Source};
-ghost use Rattle.m2_base.specs.Statics.Operands.{characters_of as spec_characters_of};
-ghost use Rattle.m2_base.specs.Statics.Ranges.{range};
 ghost use Rattle.m2_base.specs.declared.notes.Notes.{Notes as NotesOf};
-ghost use Rattle.m2_base.specs.declared.operands.Operand.TheVariants as OperandOf;
-ghost use Rattle.expr_sem.specs.Coded.{characters as spec_characters, is_structured as spec_structured, value_by};
+ghost use Rattle.expr_sem.specs.Coded.{characters as spec_characters, is_structured as spec_structured};
 ghost use Rattle.expr_sem.specs.Coded.{value_code as spec_value_code};
 ghost use Rattle.expr_sem.specs.Coders.{Codes, Keeps, SuitsPlace, frame_of, nodes_of};
 ghost use Rattle.expr_sem.specs.Codings.{Coding, IsCoded, IsFragment, coded_in};
-ghost use Rattle.expr_sem.specs.Fragments.{IsIn, IsMade, part};
+ghost use Rattle.expr_sem.specs.Fragments.{IsMade, part};
 ghost use Rattle.expr_sem.specs.Parts.{text as spec_text};
 ghost use Rattle.m2_base.specs.Diagnostics.{code_of};
 ghost use Rattle.expr_sem.specs.Values.{as_value as spec_as_value, assigned_to as spec_assigned_to};
-ghost use Rattle.expr_sem.specs.Values.{in_range as spec_in_range, in_range_by as spec_in_range_by};
+ghost use Rattle.expr_sem.specs.Values.{in_range as spec_in_range};
 ghost use Rattle.expr_sem.specs.declared.fragments.Node.{Node};
 ghost use Rattle.type_rules.specs.Asks.{Reads, WhereKnown, WhereWaiting};
 ghost use Rattle.type_rules.specs.Scenes.{IsThere, Suits, WhereTold, scene_of};
@@ -37,17 +34,6 @@ use m2_base::{
 };
 use type_rules::{range_of, stand};
 
-/// The characters of a string with these bytes.
-fn characters_of(texts: &Texts, bytes: &[u8]) -> Result<Vec<u8>, Memory>
-    ensures { IfOk result (λ copy. copy.items ≡ spec_characters_of bytes.now) }
-{
-    if bytes.is_empty() {
-        copied(texts, &[0])
-    } else {
-        copied(texts, bytes)
-    }
-}
-
 /// A copy of the characters of the string that has this number among the unit's names, without a 0 behind them. The
 /// empty string has one character, of code 0. Where it fails memory is wanted.
 pub fn characters(site: &Site, name: u32) -> Result<Vec<u8>, Memory>
@@ -56,7 +42,12 @@ pub fn characters(site: &Site, name: u32) -> Result<Vec<u8>, Memory>
         (source : Source) → source.spellings ≡ site.now.texts.now.names → bytes.items ≡ spec_characters source name) }
 {
     let texts = site.texts;
-    characters_of(texts, texts.names.bytes(name))
+    let bytes = texts.names.bytes(name);
+    if bytes.is_empty() {
+        copied(texts, &[0])
+    } else {
+        copied(texts, bytes)
+    }
 }
 
 /// A copy of bytes.
@@ -87,28 +78,6 @@ pub fn is_structured<S: Scopes>(scopes: &mut S, around: &Around, of: Place) -> A
     ))
 }
 
-/// The code of the value of a variable of a type.
-fn variable_value<S: Scopes>(
-    scopes: &mut S,
-    site: &Site,
-    of: Place,
-    code: Fragment,
-    fragments: &mut Fragments,
-) -> Result<Ask<Fragment>, Memory>
-    requires suits { SuitsSite (S.state scopes.old).frame site.now }
-    requires of { IsThere (S.state scopes.old).frame of }
-    requires code { IsIn fragments.old.nodes.items code }
-    ensures { (notes : NotesOf) → Coding (S.state scopes.old) (S.state scopes.new) notes notes
-        fragments.old.nodes.items fragments.new.nodes.items site.now result IsFragment part
-        (λ c. gives (value_by c (part fragments.old.nodes.items code) (OperandOf.Variable of))) }
-{
-    match is_structured(scopes, site.around, of) {
-        Ask::Known(true) => Ok(Ask::Known(code)),
-        Ask::Known(false) => answered(instr_behind(code, Instr::Load, fragments)),
-        Ask::DontKnowYet(head) => Ok(Ask::DontKnowYet(head)),
-    }
-}
-
 /// The code of a string.
 pub fn string_value(site: &Site, name: u32, fragments: &mut Fragments) -> Result<Fragment, Memory>
     requires named { name < length site.now.texts.now.names }
@@ -137,7 +106,13 @@ pub fn value_code<S: Scopes>(
     match x.operand {
         Operand::Constant(_, value) => answered(fragments.one(Instr::Push(value))),
         Operand::StringConstant(name, _) => answered(string_value(site, name, fragments)),
-        Operand::Variable(of) => variable_value(scopes, site, of, x.code, fragments),
+        Operand::Variable(of) => {
+            if asked!(is_structured(scopes, site.around, of)) {
+                Ok(Ask::Known(x.code))
+            } else {
+                answered(instr_behind(x.code, Instr::Load, fragments))
+            }
+        }
         Operand::Procedure(name, of, number, _) => {
             procedure_code(scopes, site, name, Target { of, number }, fragments)
         }
@@ -165,30 +140,6 @@ pub fn as_value(site: &Site, at: u32, x: Coded, notes: &mut Notes) -> Result<Ask
     }
 }
 
-/// A value that lies in a range, where there is one; a constant outside it is refused.
-fn within(
-    site: &Site,
-    at: u32,
-    ends: Option<(i64, i64)>,
-    x: Coded,
-    notes: &mut Notes,
-) -> Result<Ask<Coded>, Memory>
-    ensures { (state : State) (nodes : List Node) → IsCoded state.frame nodes x
-        → Coding state state notes.old notes.new nodes nodes site.now result IsCoded coded_in
-        (λ c. spec_in_range_by c at (option_map (λ ends. range ends.0 ends.1) ends) (coded_in nodes x) x.operand) }
-{
-    match x.operand {
-        Operand::Constant(_, value) => {
-            if is_within(ends, value) {
-                Ok(Ask::Known(x))
-            } else {
-                refused(site, at, Diagnostic::OutOfRange, notes)
-            }
-        }
-        _ => Ok(Ask::Known(x)),
-    }
-}
-
 /// A value for a variable of a type: a constant lies in its range.
 pub fn in_range<S: Scopes>(
     scopes: &mut S,
@@ -203,9 +154,16 @@ pub fn in_range<S: Scopes>(
         → Coding (S.state scopes.old) (S.state scopes.new) notes.old notes.new nodes nodes site.now result IsCoded
         coded_in (λ c. spec_in_range c x.at to (coded_in nodes x.coded)) }
 {
-    match range_of(scopes, site.around, to) {
-        Ask::Known(ends) => within(site, x.at, ends, x.coded, notes),
-        Ask::DontKnowYet(head) => Ok(Ask::DontKnowYet(head)),
+    let ends = asked!(range_of(scopes, site.around, to));
+    match x.coded.operand {
+        Operand::Constant(_, value) => {
+            if is_within(ends, value) {
+                Ok(Ask::Known(x.coded))
+            } else {
+                refused(site, x.at, Diagnostic::OutOfRange, notes)
+            }
+        }
+        _ => Ok(Ask::Known(x.coded)),
     }
 }
 

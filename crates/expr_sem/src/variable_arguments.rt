@@ -17,7 +17,7 @@ use m2_base::{Ask, Diagnostic, Memory, Notes, Operand, Place, RowMeaning, Scopes
 use type_rules::{operand_type, range_of, stand};
 
 /// Which type a variable is to have.
-#[derive(Clone, Copy, Debug, PartialEq, Eq)]
+#[derive(Clone, Copy)]
 pub enum Wanted {
     Ordinal,
     Set,

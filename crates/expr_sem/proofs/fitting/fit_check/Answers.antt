@@ -1,14 +1,17 @@
-use Rattle.std.proofs.Common.{◌≡◌, ◌∙◌, Option, ap}
+use Rattle.std.proofs.Common.{◌≡◌, ◌∙◌, ◌∷◌, [], Option, ℤ, ap, of_z, rules, sym, to_z, w64}
 use Rattle.std.specs.Prelude.{option_map}
 use Rattle.m2_base.specs.Statics.Ranges.{Range, range}
 use Rattle.m2_base.specs.Statics.Types.{range_of}
+use Rattle.code_form.specs.declared.instr.Instr.TheVariants.{Check}
 use Rattle.type_rules.proofs.Compatibles.{told_later}
 use Rattle.type_rules.proofs.Later.{IsThere_read, Suits_read}
 use Rattle.type_rules.proofs.Reading.{Reads-trans, Waits_read}
 use Rattle.type_rules.specs.Scenes.{scene_of}
 use Rattle.expr_sem.specs.Fitting.{check_of, fit_check as spec_fit_check}
 use Rattle.expr_sem.specs.Parts.{plain}
-use Rattle.expr_sem.proofs.Making.{made_told, question_waits}
+use Rattle.expr_sem.specs.RangeChecks.{checks_of}
+use Rattle.expr_sem.specs.declared.fragments.Fragment.TheVariants.{Nothing}
+use Rattle.expr_sem.proofs.Making.{made_told, question_waits, there_told}
 use Rattle.expr_sem.proofs.fitting.fit_check.Goals as goal
 
 pub returns-in-DontKnowYet : goal.returns-in-DontKnowYet
@@ -24,14 +27,28 @@ pub returns-in-DontKnowYet-range_of : goal.returns-in-DontKnowYet-range_of
 returns-in-DontKnowYet-range_of g c n =
     question_waits n _ (Reads-trans c.in-Known.ensures.reads c.in-DontKnowYet-range_of.ensures.reads) (Waits_read c.in-Known.ensures.reads c.in-DontKnowYet-range_of.ensures.waits)
 
-pub returns : goal.returns
-returns g c n =
+pub returns-in-Some : goal.returns-in-Some
+returns-in-Some g c n =
     let f = (g.S.Scopes.state c.args.scopes.now).frame in
     let a = c.args.site.now.around.now in
     let first = c.in-Known.ensures.told in
     let second = told_later f _ (λ e made. option_map (λ ends. range ends.0 ends.1) c.in-Known-range_of.value ≡ range_of (scene_of e made a) c.args.to) c.in-Known.ensures.reads.keeps.frame c.in-Known-range_of.ensures.told in
-    made_told n c.check.result c.answered.result (λ k. spec_fit_check k.scene c.args.from c.args.to) c.answered.ensures
-    (Reads-trans c.in-Known.ensures.reads c.in-Known-range_of.ensures.reads) c.check.ensures
-    (λ made in_hand told. ap plain (c.ends_to_check.ensures
+    let low : to_z w64 (of_z w64 c.in-Some.low) ≡ c.in-Some.low = search rules in
+    let high : to_z w64 (of_z w64 c.in-Some.high) ≡ c.in-Some.high = search rules in
+    made_told n c.one.result c.answered.result (λ k. spec_fit_check k.scene c.args.from c.args.to) c.answered.ensures
+    (Reads-trans c.in-Known.ensures.reads c.in-Known-range_of.ensures.reads) c.one.ensures.made
+    (λ made in_hand told. ap (λ (n : ℤ). plain (Check n (to_z w64 (of_z w64 c.in-Some.high)) ∷ [])) low ∙ ap (λ (n : ℤ). plain (Check c.in-Some.low n ∷ [])) high
+    ∙ ap plain (ap checks_of (sym c.in-Some.is) ∙ c.ends_to_check.ensures
+    ∙ ap (λ (r : Option Range). check_of r (option_map (λ ends. range ends.0 ends.1) c.in-Known-range_of.value)) (first made in_hand told)
+    ∙ ap (λ (r : Option Range). check_of (range_of (scene_of f made a) c.args.from) r) (second made in_hand told)))
+
+pub returns-in-None : goal.returns-in-None
+returns-in-None g c n =
+    let f = (g.S.Scopes.state c.args.scopes.now).frame in
+    let a = c.args.site.now.around.now in
+    let first = c.in-Known.ensures.told in
+    let second = told_later f _ (λ e made. option_map (λ ends. range ends.0 ends.1) c.in-Known-range_of.value ≡ range_of (scene_of e made a) c.args.to) c.in-Known.ensures.reads.keeps.frame c.in-Known-range_of.ensures.told in
+    there_told n Nothing (λ k. spec_fit_check k.scene c.args.from c.args.to) (Reads-trans c.in-Known.ensures.reads c.in-Known-range_of.ensures.reads) tt
+    (λ made in_hand told. ap plain (ap checks_of (sym c.in-None.is) ∙ c.ends_to_check.ensures
     ∙ ap (λ (r : Option Range). check_of r (option_map (λ ends. range ends.0 ends.1) c.in-Known-range_of.value)) (first made in_hand told)
     ∙ ap (λ (r : Option Range). check_of (range_of (scene_of f made a) c.args.from) r) (second made in_hand told)))

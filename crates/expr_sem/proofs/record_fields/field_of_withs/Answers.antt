@@ -1,8 +1,24 @@
-use Rattle.std.proofs.Common.{◌∙◌, None, Some, sym}
+use Rattle.std.proofs.Common.{◌∙◌, None, Some, refl, sym}
 use Rattle.type_rules.specs.Scenes.{scene_of}
-use Rattle.type_rules.proofs.Reading.{Reads-trans}
+use Rattle.type_rules.proofs.Later.{Suits_read}
+use Rattle.type_rules.proofs.Reading.{Reads-refl, Reads-trans, Waits_read}
 use Rattle.expr_sem.proofs.Selecting.{asked_before, with_step}
 use Rattle.expr_sem.proofs.record_fields.field_of_withs.Goals as goal
+
+pub loop-number-init : goal.loop-number-init
+loop-number-init g c = record { reads = Reads-refl _; left = λ made in_hand told. refl }
+
+pub field_of-requires-clause-suits : goal.field_of-requires-clause-suits
+field_of-requires-clause-suits g c = Suits_read c.loop-number.invariant.reads c.requires.suits
+
+pub returns-in-DontKnowYet-clause-reads : goal.returns-in-DontKnowYet-clause-reads
+returns-in-DontKnowYet-clause-reads g c = Reads-trans c.loop-number.invariant.reads c.in-DontKnowYet.ensures.reads
+
+pub returns-in-DontKnowYet-clause-waits : goal.returns-in-DontKnowYet-clause-waits
+returns-in-DontKnowYet-clause-waits g c = Waits_read c.loop-number.invariant.reads c.in-DontKnowYet.ensures.waits
+
+pub returns-in-Some-clause-reads : goal.returns-in-Some-clause-reads
+returns-in-Some-clause-reads g c = Reads-trans c.loop-number.invariant.reads c.field_of.ensures.reads
 
 pub returns-in-Some-clause-told : goal.returns-in-Some-clause-told
 returns-in-Some-clause-told g c made in_hand told =
@@ -26,3 +42,6 @@ loop-number-preserved g c =
       left = λ made in_hand told. with_step (scene_of f made a) k c.args.withs.now _ c.args.name None c.loop-number-test.true (sym c.in_default.is ∙ asked made in_hand told)
           ∙ c.loop-number.invariant.left made in_hand told;
     }
+
+pub returns-clause-reads : goal.returns-clause-reads
+returns-clause-reads g c = c.loop-number.invariant.reads

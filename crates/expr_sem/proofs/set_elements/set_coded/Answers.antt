@@ -11,6 +11,7 @@ use Rattle.expr_sem.specs.Parts.{Part}
 use Rattle.expr_sem.specs.SetElements.{set_by}
 use Rattle.expr_sem.proofs.Operating.{value_alone, value_grown}
 use Rattle.expr_sem.proofs.Onwards.{just_wanted}
+use Rattle.expr_sem.proofs.Sequencing.{made_before}
 use Rattle.expr_sem.proofs.Without.{computed_set, value_fits}
 use Rattle.expr_sem.proofs.set_elements.set_coded.Goals as goal
 
@@ -28,12 +29,16 @@ returns-in-InError c state notes site h k =
     value_alone state notes ns site c.in_error.result IsCoded coded_in (λ u. set_by c.args.of (part ns c.args.es.code) c.args.es.set)
     (c.in_error.ensures.there _ ns) (λ u. c.in_error.ensures.told ns ∙ ap (λ o. set_by c.args.of (part ns c.args.es.code) o) (sym c.in-InError.is))
 
+pub returns-in_err-empty-in_default : goal.returns-in_err-empty-in_default
+returns-in_err-empty-in_default c state notes site h k = just_wanted state notes site c.from_residual.result c.from_residual.ensures.0 c.in_err-empty-in_default.ensures.made
+
 pub returns-in_err-code-in_default : goal.returns-in_err-code-in_default
-returns-in_err-code-in_default c state notes site h k = just_wanted state notes site c.from_residual.result c.from_residual.ensures.0 c.in_err-code-in_default.ensures
+returns-in_err-code-in_default c state notes site h k =
+    just_wanted state notes site c.from_residual-in_err-code-in_default.result c.from_residual-in_err-code-in_default.ensures.0 (made_before _ c.args.es.code c.requires.code c.in_ok-empty-in_default.ensures.made c.in_err-code-in_default.ensures.made)
 
 pub returns-in_ok-code-in_default : goal.returns-in_ok-code-in_default
 returns-in_ok-code-in_default c state notes site h k =
     let ns = c.args.fragments.now.nodes.items in
-    let made = c.in_ok-code-in_default.ensures in
+    let made = made_before _ c.args.es.code c.requires.code c.in_ok-empty-in_default.ensures.made c.in_ok-code-in_default.ensures.made in
     value_grown state notes site c.new.result IsCoded coded_in (λ u. set_by c.args.of (part ns c.args.es.code) c.args.es.set) made.grows (c.new.ensures.there _ _ h made.made.there)
-    (λ u. c.new.ensures.told c.from_empty.new.fragments.nodes.items ∙ ap (λ (p : Part). coded (Computed c.args.of) p) made.made.part_is ∙ computed_set c.args.of (part ns c.args.es.code) c.args.es.set c.in_default.not-Constant c.in_default.not-InError)
+    (λ u. c.new.ensures.told c.then.new.self.nodes.items ∙ ap (λ (p : Part). coded (Computed c.args.of) p) made.made.part_is ∙ computed_set c.args.of (part ns c.args.es.code) c.args.es.set c.in_default.not-Constant c.in_default.not-InError)

@@ -21,6 +21,9 @@ use Rattle.expr_sem.proofs.Making.{after_question, question_waits}
 use Rattle.expr_sem.proofs.Operating.{described, value_alone}
 use Rattle.expr_sem.proofs.Selecting.{stays_read}
 use Rattle.expr_sem.proofs.set_members.element_of_base.Goals as goal
+use Rattle.const_eval.proofs.Later.{SuitsSite_read}
+use Rattle.type_rules.proofs.Later.{IsThere_read}
+use Rattle.type_rules.proofs.Reading.{Reads-trans}
 
 -- a member by whether it is compatible
 by_compatible : (c : Context) (at : ℕ) (base : Place) (v : code.Coded) (o other : Operand) (b : Bool)
@@ -75,3 +78,21 @@ returns-in-None g c nodes h =
     (λ made in_hand told. let k = context_of (g.S.Scopes.state c.args.scopes.now).frame made c.args.site.now in
     ap (λ (b : Bool). if b then gives in_error else (if is_compatible k.scene c.args.v.coded.operand (Computed c.args.base) then in_range k c.args.v.at c.args.base (taken (taken_into k.source k.scene c.args.base c.args.v.coded.operand) (coded_in nodes c.args.v.coded)) else refuse k c.args.v.at wrong_argument in_error))
     (sym c.if-broken.false ∙ c.in-Known.ensures.told made in_hand told))
+
+pub is_broken-requires-clause-suits : goal.is_broken-requires-clause-suits
+is_broken-requires-clause-suits g c = c.requires.suits.around
+
+pub is_broken-requires-clause-there : goal.is_broken-requires-clause-there
+is_broken-requires-clause-there g c = c.requires.base
+
+pub compatible_pair-requires-clause-suits : goal.compatible_pair-requires-clause-suits
+compatible_pair-requires-clause-suits g c = SuitsSite_read c.in-Known.ensures.reads c.requires.suits
+
+pub compatible_pair-requires-clause-y : goal.compatible_pair-requires-clause-y
+compatible_pair-requires-clause-y g c = IsThere_read c.in-Known.ensures.reads c.requires.base
+
+pub in_range-requires-clause-suits : goal.in_range-requires-clause-suits
+in_range-requires-clause-suits g c = SuitsSite_read (Reads-trans c.in-Known.ensures.reads c.in-Known-compatible_pair.ensures.reads) c.requires.suits
+
+pub in_range-requires-clause-to : goal.in_range-requires-clause-to
+in_range-requires-clause-to g c = IsThere_read (Reads-trans c.in-Known.ensures.reads c.in-Known-compatible_pair.ensures.reads) c.requires.base

@@ -1,13 +1,13 @@
-use Rattle.std.proofs.Common.{◌≡◌, ◌∙◌, ◌∷◌, [], ap, of_z, refl, rules, sym, to_z, w64}
+use Rattle.std.proofs.Common.{◌≡◌, ◌∙◌, ◌∷◌, [], ap, if◌then◌else◌, of_z, refl, rules, sym, to_z, w64}
 use Rattle.m2_base.specs.Gives.{gives}
 use Rattle.expr_sem.specs.Coded.{value_by, value_code as spec_value_code}
 use Rattle.expr_sem.specs.Codings.{coded_in}
-use Rattle.code_form.specs.declared.instr.Instr.TheVariants.{Push}
+use Rattle.code_form.specs.declared.instr.Instr.TheVariants.{Load, Push}
 use Rattle.expr_sem.specs.Fragments.{part}
-use Rattle.expr_sem.specs.Parts.{plain}
+use Rattle.expr_sem.specs.Parts.{plain, ◌⨟◌}
 use Rattle.type_rules.specs.Sites.{context_of}
 use Rattle.type_rules.proofs.Reading.{Reads-refl}
-use Rattle.expr_sem.proofs.Making.{made_alone, there_told}
+use Rattle.expr_sem.proofs.Making.{made_alone, made_told, there_told}
 use Rattle.expr_sem.proofs.Operating.{described}
 use Rattle.expr_sem.proofs.ValueCases.{other_value}
 use Rattle.m2_base.specs.Finished.{source_of}
@@ -27,9 +27,21 @@ returns-in-StringConstant g c n =
     (c.string_value.ensures (source_of c.args.site.now.texts.now) refl)
     (λ made. ap (value_by (context_of (g.S.Scopes.state c.args.scopes.now).frame made c.args.site.now) (part ns c.args.x.code)) (sym c.in-StringConstant.is))
 
-pub returns-in-Variable : goal.returns-in-Variable
-returns-in-Variable g c n =
-    described c.variable_value.result (c.variable_value.ensures n) (λ k. ap (λ o. gives (value_by k (part c.args.fragments.now.nodes.items c.args.x.code) o)) (sym c.in-Variable.is))
+pub returns-then-value : goal.returns-then-value
+returns-then-value g c n =
+    let state = g.S.Scopes.state c.args.scopes.now in
+    let p = part c.args.fragments.now.nodes.items c.args.x.code in
+    there_told n c.args.x.code (λ k. spec_value_code k (coded_in c.args.fragments.now.nodes.items c.args.x)) c.in-Known.ensures.reads c.requires.x.code
+    (λ made in_hand told. ap (λ b. if b then p else (p ⨟ plain (Load ∷ []))) (sym c.if-value.true ∙ c.in-Known.ensures.told made in_hand told)
+    ∙ ap (value_by (context_of state.frame made c.args.site.now) p) (sym c.in-Variable.is))
+
+pub returns-else-value : goal.returns-else-value
+returns-else-value g c n =
+    let state = g.S.Scopes.state c.args.scopes.now in
+    let p = part c.args.fragments.now.nodes.items c.args.x.code in
+    made_told n c.instr_behind.result c.answered-else-value.result (λ k. spec_value_code k (coded_in c.args.fragments.now.nodes.items c.args.x)) c.answered-else-value.ensures c.in-Known.ensures.reads c.instr_behind.ensures
+    (λ made in_hand told. ap (λ b. if b then p else (p ⨟ plain (Load ∷ []))) (sym c.if-value.false ∙ c.in-Known.ensures.told made in_hand told)
+    ∙ ap (value_by (context_of state.frame made c.args.site.now) p) (sym c.in-Variable.is))
 
 pub returns-in-Procedure : goal.returns-in-Procedure
 returns-in-Procedure g c n =

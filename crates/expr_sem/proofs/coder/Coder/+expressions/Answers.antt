@@ -3,8 +3,8 @@ use denote.Param.Weighed.{most}
 use Rattle.std.specs.Prelude.{option_map}
 use Rattle.m2_base.specs.Gives.{and_then, gives}
 use Rattle.m2_base.specs.Standard.{character, whole as whole_type}
-use Rattle.m2_base.specs.Statics.Sets.{set_base, set_type_of}
-use Rattle.m2_base.specs.Trees.{exprs, label_with, labels, nexts, selectors}
+use Rattle.m2_base.specs.Statics.Sets.{element_of, set_base, set_type_of}
+use Rattle.m2_base.specs.Trees.{expr_at, exprs, label_with, labels, nexts, selectors}
 use Rattle.m2_base.specs.Views.{designator_view, expr_view, label_view, next_view, selector_view}
 use Rattle.m2_base.specs.declared.operands.Operand.{Operand}
 use Rattle.m2_base.specs.declared.operands.Operand.TheVariants.{Constant}
@@ -16,21 +16,25 @@ use Rattle.m2_base.specs.declared.trees.expressions.Next.{size-Next}
 use Rattle.m2_base.specs.declared.trees.expressions.Selector.{size-Selector}
 use Rattle.m2_base.proofs.Seen.{call_seen, char_seen, deref_seen, designator_seen, field_seen, index_seen, label_seen, many_seen, name_seen, next_seen, number_seen, one_seen, plain_set_seen, string_seen, typed_set_seen}
 use Rattle.type_rules.specs.Scenes.{Hand}
-use Rattle.type_rules.specs.Sites.{context_of}
+use Rattle.type_rules.specs.Sites.{SuitsSite, context_of}
 use Rattle.const_eval.proofs.ReadParts.{at_seen, char_told, char_value, designator_at_seen, designator_read, form_read, high_read, label_read, low_read, next_read, number_told, number_value, read_expr, read_label, read_next, read_selector, selector_read}
 use Rattle.const_eval.proofs.Sizes.{arguments_smaller, called_smaller, first_smaller, high_smaller, index_smaller, item_small, low_smaller, name_smaller, next_smaller, nexts_smaller, one_smaller, rest_smaller, set_smaller, set_type_smaller}
 use Rattle.const_eval.proofs.TypesThere.{standard_there}
 use Rattle.const_eval.proofs.Folding.{folded}
+use Rattle.const_eval.proofs.Analysing.{and_then_assoc, noted_type}
+use Rattle.const_eval.specs.Sites.{IsOperand}
+use Rattle.m2_base.specs.States.{Frame}
+use Rattle.expr_sem.proofs.Following.{by_coding, followed_by, then_unknown, then_wanted}
+use Rattle.expr_sem.proofs.Without.{taken_as}
 use Rattle.expr_sem.specs.ArgumentCodes.{IsArgument, argument_in, parameter_view}
 use Rattle.expr_sem.specs.Arguments.{after_argument, argument}
 use Rattle.expr_sem.specs.Callees.{called_in}
 use Rattle.expr_sem.specs.Calls.{call_coded, called}
 use Rattle.expr_sem.specs.Coded.{bare, in_error}
 use Rattle.expr_sem.specs.Coded as code
-use Rattle.expr_sem.specs.Coders.{nodes_of}
 use Rattle.expr_sem.specs.Codings.{IsCoded, coded_in, with_types}
 use Rattle.expr_sem.specs.Elements.{select_element}
-use Rattle.expr_sem.specs.ExpressionParts.{all_passed, behind_first, called_as, called_with, first_argument, index, member, next_passed, second_argument, range_to, set_of, type_before}
+use Rattle.expr_sem.specs.ExpressionParts.{second_argument, all_passed, behind_first, called_as, called_with, index, member, next_passed, range_to, set_of, type_before}
 use Rattle.expr_sem.specs.Expressions.{continued, designated, element, elements, expression, followed, indexed, looked_at, passed, selected, selector, value}
 use Rattle.expr_sem.specs.Fragments.{part}
 use Rattle.expr_sem.specs.Parts.{Part, none}
@@ -48,9 +52,9 @@ use Rattle.expr_sem.specs.SetElements as sets
 use Rattle.expr_sem.specs.SetElements.{add_element, add_range, element_coded, no_elements_yet, set_coded}
 use Rattle.expr_sem.specs.Values.{as_value}
 use Rattle.expr_sem.proofs.ExpressionFolds.{indices_folded, labels_folded, looked_folded, nexts_folded, selectors_folded}
-use Rattle.expr_sem.proofs.Onwards.{coded_after, suits_after}
-use Rattle.expr_sem.proofs.Coders.{Keeps-refl, Keeps-trans, at_old}
-use Rattle.expr_sem.proofs.Operating.{coded_later, coding_after, described, described_there, unknown, unknown_after, unmade, unmade_after, value_alone}
+use Rattle.expr_sem.proofs.Onwards.{coded_after, holds_after, suits_after}
+use Rattle.expr_sem.proofs.Coders.{Keeps-refl, Keeps-trans}
+use Rattle.expr_sem.proofs.Operating.{coded_later, coding_after, described, described_there, of_analysed, unknown, unknown_after, unmade, unmade_after, value_alone}
 use Rattle.expr_sem.proofs.PartsGiven.{form_given, many_given, next_given, one_given, one_label_given, range_given, typed_set_given}
 use Rattle.expr_sem.proofs.Walking.{elements_after, elements_later, one_more, open_after, stands_after, start_of, started, there_after, whole}
 use Rattle.expr_sem.proofs.coder.Coder.+expressions.Goals as goal
@@ -67,8 +71,7 @@ value_of-returns-in-Err-clause-codes g t c = unmade c.in-Err.ensures.codes _
 pub value_of-returns-clause-codes : goal.value_of-returns-clause-codes
 value_of-returns-clause-codes g t c =
     let one = (rw c.in-Known.is at c.in-Ok.ensures.codes) in
-    let two = (rw c.expression.ensures.keeps.site at (c.as_value.ensures (g.S.Scopes.state c.expression.new.self.scopes.now) c.expression.new.self.fragments.now.nodes.items (stands_after one))) in
-    described c.as_value.result (coding_after (λ k. expression k (with_types c.args.self.now.withs.now) (expr_view c.args.e.now)) (λ o k. as_value k c.args.e.now.at o) c.as_value.result one two) (λ k. ap (λ (at : ℕ). and_then (expression k (with_types c.args.self.now.withs.now) (expr_view c.args.e.now)) (λ o. as_value k at o)) (sym (at_seen c.args.e.now)))
+    described c.as_value.result (coding_after (λ k. expression k (with_types c.args.self.now.withs.now) (expr_view c.args.e.now)) (λ o k. as_value k c.args.e.now.at o) c.as_value.result one ((rw c.expression.ensures.keeps.site at (c.as_value.ensures (g.S.Scopes.state c.expression.new.self.scopes.now) c.expression.new.self.fragments.now.nodes.items (stands_after one))))) (λ k. ap (λ (at : ℕ). and_then (expression k (with_types c.args.self.now.withs.now) (expr_view c.args.e.now)) (λ o. as_value k at o)) (sym (at_seen c.args.e.now)))
 
 pub member-value_of-requires : goal.member-value_of-requires
 member-value_of-requires g t c κs within = (search rules, (within, (c.requires.suits, (c.requires.withs, (c.requires.read)))))
@@ -79,73 +82,45 @@ member-returns-in-DontKnowYet-clause-codes g t c = unknown (rw c.in-DontKnowYet.
 pub member-returns-in-Err-clause-codes : goal.member-returns-in-Err-clause-codes
 member-returns-in-Err-clause-codes g t c = unmade c.in-Err.ensures.codes _
 
-pub member-element_coded-requires-clause-suits : goal.member-element_coded-requires-clause-suits
-member-element_coded-requires-clause-suits g t c = (rw c.value_of.ensures.keeps.site (suits_after (rw c.in-Known.is at c.in-Ok.ensures.codes) c.requires.suits))
+pub member-taken-requires-clause-suits : goal.member-taken-requires-clause-suits
+member-taken-requires-clause-suits g t c = (rw c.value_of.ensures.keeps.site (suits_after (rw c.in-Known.is at c.in-Ok.ensures.codes) c.requires.suits))
 
-pub member-element_coded-requires-clause-base : goal.member-element_coded-requires-clause-base
-member-element_coded-requires-clause-base g t c = there_after (rw c.in-Known.is at c.in-Ok.ensures.codes) c.args.base c.requires.base
+pub member-taken-requires-clause-base : goal.member-taken-requires-clause-base
+member-taken-requires-clause-base g t c = there_after (rw c.in-Known.is at c.in-Ok.ensures.codes) c.args.base c.requires.base
 
-pub member-element_coded-requires-clause-x : goal.member-element_coded-requires-clause-x
-member-element_coded-requires-clause-x g t c = stands_after (rw c.in-Known.is at c.in-Ok.ensures.codes)
+pub member-taken-requires-clause-x : goal.member-taken-requires-clause-x
+member-taken-requires-clause-x g t c = (stands_after (rw c.in-Known.is at c.in-Ok.ensures.codes)).operand
 
-pub member-returns-clause-codes : goal.member-returns-clause-codes
-member-returns-clause-codes g t c =
-    let one = (rw c.in-Known.is at c.in-Ok.ensures.codes) in
-    let two = (rw c.value_of.ensures.keeps.site at c.element_coded.ensures.codes) in
-    described c.element_coded.result (coding_after (λ k. value k (with_types c.args.self.now.withs.now) (expr_view c.args.e.now)) (λ v k. element_coded k c.args.base c.args.e.now.at v) c.element_coded.result one two) (λ k. ap (λ (at : ℕ). and_then (value k (with_types c.args.self.now.withs.now) (expr_view c.args.e.now)) (λ v. element_coded k c.args.base at v)) (sym (at_seen c.args.e.now)))
+pub member-returns-in-DontKnowYet-asked-clause-codes : goal.member-returns-in-DontKnowYet-asked-clause-codes
+member-returns-in-DontKnowYet-asked-clause-codes g t c = unknown_after (rw c.in-Known.is at c.in-Ok.ensures.codes) (rw c.value_of.ensures.keeps.site at (of_analysed c.value_of.new.self.fragments.now.nodes.items _ (rw c.in-DontKnowYet-asked.is at c.in-Ok-taken.ensures)))
 
-pub followed-value_of-requires : goal.followed-value_of-requires
-followed-value_of-requires g t c κs within = ((let small = next_smaller c.args.next.now in omega (arith, small, c.decreases)), (within, (c.requires.suits, (c.requires.withs, (next_read c.args.self.now.site.now.texts.now.names c.args.next.now c.requires.read)))))
+pub member-returns-in-Err-taken-clause-codes : goal.member-returns-in-Err-taken-clause-codes
+member-returns-in-Err-taken-clause-codes g t c = unmade_after (rw c.in-Known.is at c.in-Ok.ensures.codes) (rw c.value_of.ensures.keeps.site at (of_analysed c.value_of.new.self.fragments.now.nodes.items _ c.in-Err-taken.ensures)) _
 
-pub followed-returns-in-DontKnowYet-clause-codes : goal.followed-returns-in-DontKnowYet-clause-codes
-followed-returns-in-DontKnowYet-clause-codes g t c = unknown (rw c.in-DontKnowYet.is at c.in-Ok.ensures.codes)
-
-pub followed-returns-in-Err-clause-codes : goal.followed-returns-in-Err-clause-codes
-followed-returns-in-Err-clause-codes g t c = unmade c.in-Err.ensures.codes _
-
-pub followed-two_coded-requires-clause-suits : goal.followed-two_coded-requires-clause-suits
-followed-two_coded-requires-clause-suits g t c = (rw c.value_of.ensures.keeps.site (suits_after (rw c.in-Known.is at c.in-Ok.ensures.codes) c.requires.suits))
-
-pub followed-two_coded-requires-clause-x : goal.followed-two_coded-requires-clause-x
-followed-two_coded-requires-clause-x g t c = coded_after (rw c.in-Known.is at c.in-Ok.ensures.codes) c.args.left.coded c.requires.left
-
-pub followed-two_coded-requires-clause-y : goal.followed-two_coded-requires-clause-y
-followed-two_coded-requires-clause-y g t c = stands_after (rw c.in-Known.is at c.in-Ok.ensures.codes)
-
-pub followed-returns-clause-codes : goal.followed-returns-clause-codes
-followed-returns-clause-codes g t c =
-    let one = (rw c.in-Known.is at c.in-Ok.ensures.codes) in
-    let n = c.args.next.now in
-    let left = coded_in c.args.self.now.fragments.now.nodes.items c.args.left.coded in
-    let right = coded_in c.value_of.new.self.fragments.now.nodes.items c.in-Known.value in
-    described c.two_coded.result (coding_after (λ k. value k (with_types c.args.self.now.withs.now) (expr_view n.right)) (λ v k. two_coded k n.op n.op_at c.args.left.at left n.right.at v) c.two_coded.result one (described c.two_coded.result (rw c.value_of.ensures.keeps.site at c.two_coded.ensures.codes) (λ k. ap (λ (l : code.Coded). two_coded k n.op n.op_at c.args.left.at l n.right.at right) (coded_later one.grows c.args.left.coded c.requires.left))))
-    (λ k. ap (λ (at : ℕ). and_then (value k (with_types c.args.self.now.withs.now) (expr_view n.right)) (λ v. two_coded k n.op n.op_at c.args.left.at left at v)) (sym (at_seen n.right)) ∙ next_given k (with_types c.args.self.now.withs.now) c.args.left.at left n.op n.op_at (expr_view n.right) ∙ ap (followed k (with_types c.args.self.now.withs.now) c.args.left.at left) (sym (next_seen n)))
-
-pub index-value_of-requires : goal.index-value_of-requires
-index-value_of-requires g t c κs within = (search rules, (within, (c.requires.suits, (c.requires.withs, (c.requires.read)))))
-
-pub index-returns-in-DontKnowYet-clause-codes : goal.index-returns-in-DontKnowYet-clause-codes
-index-returns-in-DontKnowYet-clause-codes g t c = unknown (rw c.in-DontKnowYet.is at c.in-Ok.ensures.codes)
-
-pub index-returns-in-Err-clause-codes : goal.index-returns-in-Err-clause-codes
-index-returns-in-Err-clause-codes g t c = unmade c.in-Err.ensures.codes _
-
-pub index-select_element-requires-clause-suits : goal.index-select_element-requires-clause-suits
-index-select_element-requires-clause-suits g t c = (rw c.value_of.ensures.keeps.site (suits_after (rw c.in-Known.is at c.in-Ok.ensures.codes) c.requires.suits))
-
-pub index-select_element-requires-clause-index : goal.index-select_element-requires-clause-index
-index-select_element-requires-clause-index g t c = stands_after (rw c.in-Known.is at c.in-Ok.ensures.codes)
-
-pub index-select_element-requires-clause-x : goal.index-select_element-requires-clause-x
-index-select_element-requires-clause-x g t c = coded_after (rw c.in-Known.is at c.in-Ok.ensures.codes) c.args.x c.requires.x
-
-pub index-returns-clause-codes : goal.index-returns-clause-codes
-index-returns-clause-codes g t c =
-    let one = (rw c.in-Known.is at c.in-Ok.ensures.codes) in
+pub member-returns-in-InError-clause-codes : goal.member-returns-in-InError-clause-codes
+member-returns-in-InError-clause-codes g t c =
     let e = c.args.e.now in
-    let x = coded_in c.args.self.now.fragments.now.nodes.items c.args.x in
-    let i = coded_in c.value_of.new.self.fragments.now.nodes.items c.in-Known.value in
-    described c.select_element.result (coding_after (λ k. value k (with_types c.args.self.now.withs.now) (expr_view e)) (λ v k. select_element k c.args.first c.args.at e.at v x) c.select_element.result one (described c.select_element.result (rw c.value_of.ensures.keeps.site at c.select_element.ensures.codes) (λ k. ap (λ (y : code.Coded). select_element k c.args.first c.args.at e.at i y) (coded_later one.grows c.args.x c.requires.x)))) (λ k. ap (λ (at : ℕ). and_then (value k (with_types c.args.self.now.withs.now) (expr_view e)) (λ v. select_element k c.args.first c.args.at at v x)) (sym (at_seen e)))
+    let v = coded_in c.value_of.new.self.fragments.now.nodes.items c.in-Known.value in
+    let u = c.in-Known-asked.value in
+    let state = g.S.Scopes.state c.taken.new.scopes in
+    let r = Ok (Known c.in_error.result) in
+    described r (coding_after (λ k. value k (with_types c.args.self.now.withs.now) (expr_view e)) (λ v k. element_coded k c.args.base e.at v) r (rw c.in-Known.is at c.in-Ok.ensures.codes)
+    (coding_after (λ k. element_of k c.args.base e.at c.in-Known.value.operand) (λ u k. gives (sets.element_as v u)) r (rw c.value_of.ensures.keeps.site at (of_analysed c.value_of.new.self.fragments.now.nodes.items _ (rw c.in-Known-asked.is at c.in-Ok-taken.ensures)))
+    (value_alone state c.taken.new.notes c.value_of.new.self.fragments.now.nodes.items c.args.self.now.site.now c.in_error.result IsCoded coded_in (λ k. sets.element_as v u) (c.in_error.ensures.there state.frame c.value_of.new.self.fragments.now.nodes.items) (λ k. c.in_error.ensures.told c.value_of.new.self.fragments.now.nodes.items ∙ ap (sets.element_as v) (sym c.in-InError.is)))))
+    (λ k. ap (λ (at : ℕ). and_then (value k (with_types c.args.self.now.withs.now) (expr_view e)) (λ v. element_coded k c.args.base at v)) (sym (at_seen e)))
+
+pub member-returns-in_default-clause-codes : goal.member-returns-in_default-clause-codes
+member-returns-in_default-clause-codes g t c =
+    let e = c.args.e.now in
+    let v = coded_in c.value_of.new.self.fragments.now.nodes.items c.in-Known.value in
+    let u = c.in-Known-asked.value in
+    let r = Ok (Known c.taken-in_default.result) in
+    let first = rw c.in-Known-asked.is at c.in-Ok-taken.ensures in
+    let two = of_analysed c.value_of.new.self.fragments.now.nodes.items _ first in
+    described r (coding_after (λ k. value k (with_types c.args.self.now.withs.now) (expr_view e)) (λ v k. element_coded k c.args.base e.at v) r (rw c.in-Known.is at c.in-Ok.ensures.codes)
+    (coding_after (λ k. element_of k c.args.base e.at c.in-Known.value.operand) (λ u k. gives (sets.element_as v u)) r (rw c.value_of.ensures.keeps.site at two)
+    (value_alone (g.S.Scopes.state c.taken.new.scopes) c.taken.new.notes c.value_of.new.self.fragments.now.nodes.items c.args.self.now.site.now c.taken-in_default.result IsCoded coded_in (λ k. sets.element_as v u) (c.taken-in_default.ensures.there _ c.value_of.new.self.fragments.now.nodes.items (holds_after two (λ (f : Frame). IsOperand f u) first.there) (coded_after two c.in-Known.value (stands_after (rw c.in-Known.is at c.in-Ok.ensures.codes)))) (λ k. c.taken-in_default.ensures.told c.value_of.new.self.fragments.now.nodes.items ∙ taken_as v u c.in_default.not-InError))))
+    (λ k. ap (λ (at : ℕ). and_then (value k (with_types c.args.self.now.withs.now) (expr_view e)) (λ v. element_coded k c.args.base at v)) (sym (at_seen e)))
 
 pub set_type-designated-requires : goal.set_type-designated-requires
 set_type-designated-requires g t c κs within = (search rules, (within, (c.requires.suits, (c.requires.withs, (c.requires.read)))))
@@ -156,17 +131,21 @@ set_type-returns-in-DontKnowYet-clause-codes g t c = unknown (rw c.in-DontKnowYe
 pub set_type-returns-in-Err-clause-codes : goal.set_type-returns-in-Err-clause-codes
 set_type-returns-in-Err-clause-codes g t c = unmade c.in-Err.ensures.codes _
 
-pub set_type-type_noted-requires-clause-suits : goal.set_type-type_noted-requires-clause-suits
-set_type-type_noted-requires-clause-suits g t c = (rw c.designated.ensures.keeps.site (suits_after (rw c.in-Known.is at c.in-Ok.ensures.codes) c.requires.suits))
+pub set_type-set_type_of-given-requires-clause-suits : goal.set_type-set_type_of-given-requires-clause-suits
+set_type-set_type_of-given-requires-clause-suits g t c = rw c.designated.ensures.keeps.site (suits_after (rw c.in-Known.is at c.in-Ok.ensures.codes) c.requires.suits)
 
-pub set_type-type_noted-requires-clause-x : goal.set_type-type_noted-requires-clause-x
-set_type-type_noted-requires-clause-x g t c = (stands_after (rw c.in-Known.is at c.in-Ok.ensures.codes)).operand
+pub set_type-set_type_of-given-requires-clause-x : goal.set_type-set_type_of-given-requires-clause-x
+set_type-set_type_of-given-requires-clause-x g t c = (stands_after (rw c.in-Known.is at c.in-Ok.ensures.codes)).operand
 
 pub set_type-returns-clause-codes : goal.set_type-returns-clause-codes
 set_type-returns-clause-codes g t c =
     let one = (rw c.in-Known.is at c.in-Ok.ensures.codes) in
     let d = c.args.of.now in
-    described c.type_noted.result (coding_after (λ k. designated k (with_types c.args.self.now.withs.now) (designator_view d)) (λ x k. set_type_of k d.first.at x.operand) c.type_noted.result one ((rw c.designated.ensures.keeps.site at (c.type_noted.ensures c.designated.new.self.fragments.now.nodes.items)))) (λ k. ap (λ (at : ℕ). and_then (designated k (with_types c.args.self.now.withs.now) (designator_view d)) (λ x. set_type_of k at x.operand)) (sym (designator_at_seen d)))
+    let suits : SuitsSite (g.S.Scopes.state c.designated.new.self.scopes.now).frame c.designated.new.self.site.now = rw c.designated.ensures.keeps.site (suits_after one c.requires.suits) in
+    let noted = noted_type c.designated.new.self.notes.now c.note_type.new.notes c.designated.new.self.site.now c.set_type_of-given.result c.note_type.result (λ k. set_type_of k d.first.at c.in-Known.value.operand)
+    c.note_type.ensures.answers c.note_type.ensures.diags c.note_type.ensures.waits c.note_type.ensures.there c.note_type.ensures.told
+    (standard_there suits.around 10) c.set_type_of-given.ensures.reads c.set_type_of-given.ensures.waits c.set_type_of-given.ensures.told c.set_type_of-given.ensures.there in
+    described c.note_type.result (coding_after (λ k. designated k (with_types c.args.self.now.withs.now) (designator_view d)) (λ x k. set_type_of k d.first.at x.operand) c.note_type.result one (rw c.designated.ensures.keeps.site at (of_analysed c.designated.new.self.fragments.now.nodes.items c.note_type.result noted))) (λ k. ap (λ (at : ℕ). and_then (designated k (with_types c.args.self.now.withs.now) (designator_view d)) (λ x. set_type_of k at x.operand)) (sym (designator_at_seen d)))
 
 pub set_of-returns-in-DontKnowYet-clause-codes : goal.set_of-returns-in-DontKnowYet-clause-codes
 set_of-returns-in-DontKnowYet-clause-codes g t c = unknown (rw c.in-DontKnowYet.is at (started c.args.self.now.notes.now c.args.self.now.fragments.now.nodes.items c.args.self.now.site.now c.set_start.result c.args.of c.set_start.ensures.reads c.set_start.ensures.waits c.set_start.ensures.based c.set_start.ensures.told c.set_start.ensures.base c.set_start.ensures.elements))
@@ -185,8 +164,7 @@ pub set_of-returns-clause-codes : goal.set_of-returns-clause-codes
 set_of-returns-clause-codes g t c =
     let first = (rw c.in-Known.is at (started c.args.self.now.notes.now c.args.self.now.fragments.now.nodes.items c.args.self.now.site.now c.set_start.result c.args.of c.set_start.ensures.reads c.set_start.ensures.waits c.set_start.ensures.based c.set_start.ensures.told c.set_start.ensures.base c.set_start.ensures.elements)) in
     let more = (rw c.in-Known-asked.is at c.in-Ok.ensures.codes) in
-    let of_there = there_after more c.args.of (there_after first c.args.of c.requires.of) in
-    coding_after (λ k. gives (start_of (set_base k c.args.of) (no_elements_yet k c.args.of))) (λ start k. and_then (elements k (with_types c.args.self.now.withs.now) start.0 start.1 (labels (map label_view c.args.items.now))) (λ es. gives (set_coded c.args.of es))) c.set_coded.result first (coding_after _ (λ es k. gives (set_coded c.args.of es)) c.set_coded.result more (c.set_coded.ensures (g.S.Scopes.state c.elements.new.self.scopes.now) c.elements.new.self.notes.now c.args.self.now.site.now of_there (stands_after more)))
+    coding_after (λ k. gives (start_of (set_base k c.args.of) (no_elements_yet k c.args.of))) (λ start k. and_then (elements k (with_types c.args.self.now.withs.now) start.0 start.1 (labels (map label_view c.args.items.now))) (λ es. gives (set_coded c.args.of es))) c.set_coded.result first (coding_after _ (λ es k. gives (set_coded c.args.of es)) c.set_coded.result more (c.set_coded.ensures (g.S.Scopes.state c.elements.new.self.scopes.now) c.elements.new.self.notes.now c.args.self.now.site.now (there_after more c.args.of (there_after first c.args.of c.requires.of)) (stands_after more)))
 
 pub element-member-requires : goal.element-member-requires
 element-member-requires g t c κs within = ((let small = low_smaller c.args.label.now in omega (arith, small, c.decreases)), (within, (c.requires.suits, (c.requires.withs, (c.requires.base, (low_read c.args.self.now.site.now.texts.now.names (expr_view (out-Label c.args.label.now).low) (option_map expr_view (out-Label c.args.label.now).high) (label_read c.args.self.now.site.now.texts.now.names c.args.label.now c.requires.read)))))))
@@ -206,27 +184,12 @@ element-add_element-requires-clause-es g t c = elements_after (rw c.in-Known.is 
 pub element-add_element-requires-clause-x : goal.element-add_element-requires-clause-x
 element-add_element-requires-clause-x g t c = stands_after (rw c.in-Known.is at c.in-Ok.ensures.codes)
 
-pub element-range_to-requires : goal.element-range_to-requires
-element-range_to-requires g t c κs within =
-    ((let small = high_smaller c.args.label.now c.in-Some.high c.in-Some.is in omega (arith, small, c.decreases)), (within, ((rw c.member.ensures.keeps.site (suits_after (rw c.in-Known.is at c.in-Ok.ensures.codes) c.requires.suits)), ((rw c.member.ensures.keeps.withs (open_after (rw c.in-Known.is at c.in-Ok.ensures.codes) c.args.self.now.withs.now c.requires.withs)), (there_after (rw c.in-Known.is at c.in-Ok.ensures.codes) c.args.base c.requires.base, (elements_after (rw c.in-Known.is at c.in-Ok.ensures.codes) c.args.es c.requires.es, (stands_after (rw c.in-Known.is at c.in-Ok.ensures.codes), (rw c.member.ensures.keeps.site (high_read c.args.self.now.site.now.texts.now.names (expr_view (out-Label c.args.label.now).low) (expr_view c.in-Some.high) (rw (ap (option_map expr_view) c.in-Some.is) at (label_read c.args.self.now.site.now.texts.now.names c.args.label.now c.requires.read)))))))))))
-
 pub element-returns-in-None-clause-codes : goal.element-returns-in-None-clause-codes
 element-returns-in-None-clause-codes g t c =
     let one = (rw c.in-Known.is at c.in-Ok.ensures.codes) in
     let es = elements_in c.args.self.now.fragments.now.nodes.items c.args.es in
-    let low = coded_in c.member.new.self.fragments.now.nodes.items c.in-Known.value in
-    described c.add_element.result (coding_after (λ k. member k (with_types c.args.self.now.withs.now) c.args.base (expr_view (out-Label c.args.label.now).low)) (λ o k. gives (add_element k es o)) c.add_element.result one (described c.add_element.result ((rw c.member.ensures.keeps.site at c.add_element.ensures.codes)) (λ k. ap (λ (u : sets.Elements). gives (add_element k u low)) (elements_later one.grows c.args.es c.requires.es)))) (λ k. one_label_given k (with_types c.args.self.now.withs.now) c.args.base es (expr_view (out-Label c.args.label.now).low)
+    described c.add_element.result (coding_after (λ k. member k (with_types c.args.self.now.withs.now) c.args.base (expr_view (out-Label c.args.label.now).low)) (λ o k. gives (add_element k es o)) c.add_element.result one (described c.add_element.result ((rw c.member.ensures.keeps.site at c.add_element.ensures.codes)) (λ k. ap (λ (u : sets.Elements). gives (add_element k u (coded_in c.member.new.self.fragments.now.nodes.items c.in-Known.value))) (elements_later one.grows c.args.es c.requires.es)))) (λ k. one_label_given k (with_types c.args.self.now.withs.now) c.args.base es (expr_view (out-Label c.args.label.now).low)
     ∙ ap (element k (with_types c.args.self.now.withs.now) c.args.base es) (sym (label_seen c.args.label.now ∙ ap (λ h. label_with (expr_view (out-Label c.args.label.now).low) (option_map expr_view h)) c.in-None.is)))
-
-pub element-returns-in-Some-clause-codes : goal.element-returns-in-Some-clause-codes
-element-returns-in-Some-clause-codes g t c =
-    let one = (rw c.in-Known.is at c.in-Ok.ensures.codes) in
-    let es = elements_in c.args.self.now.fragments.now.nodes.items c.args.es in
-    let low = coded_in c.member.new.self.fragments.now.nodes.items c.in-Known.value in
-    let high = expr_view c.in-Some.high in
-    described c.range_to.result (coding_after (λ k. member k (with_types c.args.self.now.withs.now) c.args.base (expr_view (out-Label c.args.label.now).low)) (λ o k. range_to k (with_types c.args.self.now.withs.now) c.args.base es o high) c.range_to.result one
-    (described c.range_to.result (rw c.member.ensures.keeps.withs at (rw c.member.ensures.keeps.site at c.range_to.ensures.codes)) (λ k. ap (λ (u : sets.Elements). range_to k (with_types c.args.self.now.withs.now) c.args.base u low high) (elements_later one.grows c.args.es c.requires.es)))) (λ k. range_given k (with_types c.args.self.now.withs.now) c.args.base es (expr_view (out-Label c.args.label.now).low) high
-    ∙ ap (element k (with_types c.args.self.now.withs.now) c.args.base es) (sym (label_seen c.args.label.now ∙ ap (λ h. label_with (expr_view (out-Label c.args.label.now).low) (option_map expr_view h)) c.in-Some.is)))
 
 pub range_to-member-requires : goal.range_to-member-requires
 range_to-member-requires g t c κs within = (search rules, (within, (c.requires.suits, (c.requires.withs, (c.requires.base, (c.requires.read))))))
@@ -253,9 +216,90 @@ pub range_to-returns-clause-codes : goal.range_to-returns-clause-codes
 range_to-returns-clause-codes g t c =
     let one = (rw c.in-Known.is at c.in-Ok.ensures.codes) in
     let es = elements_in c.args.self.now.fragments.now.nodes.items c.args.es in
-    let low = coded_in c.args.self.now.fragments.now.nodes.items c.args.low in
     let high = coded_in c.member.new.self.fragments.now.nodes.items c.in-Known.value in
-    coding_after (λ k. member k (with_types c.args.self.now.withs.now) c.args.base (expr_view c.args.high.now)) (λ p k. gives (add_range k es low p)) c.add_range.result one (described c.add_range.result ((rw c.member.ensures.keeps.site at c.add_range.ensures.codes)) (λ k. ap (λ (u : sets.Elements). gives (add_range k u (coded_in c.member.new.self.fragments.now.nodes.items c.args.low) high)) (elements_later one.grows c.args.es c.requires.es) ∙ ap (λ (l : code.Coded). gives (add_range k es l high)) (coded_later one.grows c.args.low c.requires.low)))
+    coding_after (λ k. member k (with_types c.args.self.now.withs.now) c.args.base (expr_view c.args.high.now)) (λ p k. gives (add_range k es (coded_in c.args.self.now.fragments.now.nodes.items c.args.low) p)) c.add_range.result one (described c.add_range.result ((rw c.member.ensures.keeps.site at c.add_range.ensures.codes)) (λ k. ap (λ (u : sets.Elements). gives (add_range k u (coded_in c.member.new.self.fragments.now.nodes.items c.args.low) high)) (elements_later one.grows c.args.es c.requires.es) ∙ ap (λ (l : code.Coded). gives (add_range k es l high)) (coded_later one.grows c.args.low c.requires.low)))
+
+pub element-range_to-requires : goal.element-range_to-requires
+element-range_to-requires g t c κs within =
+    ((let small = high_smaller c.args.label.now c.in-Some.high c.in-Some.is in omega (arith, small, c.decreases)), (within, ((rw c.member.ensures.keeps.site (suits_after (rw c.in-Known.is at c.in-Ok.ensures.codes) c.requires.suits)), ((rw c.member.ensures.keeps.withs (open_after (rw c.in-Known.is at c.in-Ok.ensures.codes) c.args.self.now.withs.now c.requires.withs)), (there_after (rw c.in-Known.is at c.in-Ok.ensures.codes) c.args.base c.requires.base, (elements_after (rw c.in-Known.is at c.in-Ok.ensures.codes) c.args.es c.requires.es, (stands_after (rw c.in-Known.is at c.in-Ok.ensures.codes), (rw c.member.ensures.keeps.site (high_read c.args.self.now.site.now.texts.now.names (expr_view (out-Label c.args.label.now).low) (expr_view c.in-Some.high) (rw (ap (option_map expr_view) c.in-Some.is) at (label_read c.args.self.now.site.now.texts.now.names c.args.label.now c.requires.read)))))))))))
+
+pub element-returns-in-Some-clause-codes : goal.element-returns-in-Some-clause-codes
+element-returns-in-Some-clause-codes g t c =
+    let one = (rw c.in-Known.is at c.in-Ok.ensures.codes) in
+    let es = elements_in c.args.self.now.fragments.now.nodes.items c.args.es in
+    let high = expr_view c.in-Some.high in
+    described c.range_to.result (coding_after (λ k. member k (with_types c.args.self.now.withs.now) c.args.base (expr_view (out-Label c.args.label.now).low)) (λ o k. range_to k (with_types c.args.self.now.withs.now) c.args.base es o high) c.range_to.result one
+    (described c.range_to.result (rw c.member.ensures.keeps.withs at (rw c.member.ensures.keeps.site at c.range_to.ensures.codes)) (λ k. ap (λ (u : sets.Elements). range_to k (with_types c.args.self.now.withs.now) c.args.base u (coded_in c.member.new.self.fragments.now.nodes.items c.in-Known.value) high) (elements_later one.grows c.args.es c.requires.es)))) (λ k. range_given k (with_types c.args.self.now.withs.now) c.args.base es (expr_view (out-Label c.args.label.now).low) high
+    ∙ ap (element k (with_types c.args.self.now.withs.now) c.args.base es) (sym (label_seen c.args.label.now ∙ ap (λ h. label_with (expr_view (out-Label c.args.label.now).low) (option_map expr_view h)) c.in-Some.is)))
+
+pub called_with-returns-in-DontKnowYet-clause-codes : goal.called_with-returns-in-DontKnowYet-clause-codes
+called_with-returns-in-DontKnowYet-clause-codes g t c = unknown (rw c.in-DontKnowYet.is at c.in-Ok.ensures.codes)
+
+pub called_with-returns-in-Err-clause-codes : goal.called_with-returns-in-Err-clause-codes
+called_with-returns-in-Err-clause-codes g t c = unmade c.in-Err.ensures.codes _
+
+pub called_with-standard-requires : goal.called_with-standard-requires
+called_with-standard-requires g t c κs within = (search rules, (within, ((rw c.called.ensures.keeps.site (suits_after (rw c.in-Known.is at c.in-Ok.ensures.codes) c.requires.suits)), ((rw c.called.ensures.keeps.withs (open_after (rw c.in-Known.is at c.in-Ok.ensures.codes) c.args.self.now.withs.now c.requires.withs)), (rw c.called.ensures.keeps.site c.requires.read)))))
+
+pub called_with-returns-in-Standard-clause-codes : goal.called_with-returns-in-Standard-clause-codes
+called_with-returns-in-Standard-clause-codes g t c =
+    let r = c.standard.result in
+    described r (coding_after (λ k. called k c.args.is_wanted c.args.to.at (length c.args.args.now) (coded_in c.args.self.now.fragments.now.nodes.items c.args.to.coded)) (λ what k. called_as k (with_types c.args.self.now.withs.now) (exprs (map expr_view c.args.args.now)) what) r (rw c.in-Known.is at c.in-Ok.ensures.codes) (described r (rw c.called.ensures.keeps.withs at (rw c.called.ensures.keeps.site at c.standard.ensures.codes)) (λ k. ap (λ (w : Callable). called_as k (with_types c.args.self.now.withs.now) (exprs (map expr_view c.args.args.now)) (called_in c.called.new.self.fragments.now.nodes.items w)) (sym c.in-Standard.is))))
+    (λ k. ap (λ (n : ℕ). and_then (called k c.args.is_wanted c.args.to.at n (coded_in c.args.self.now.fragments.now.nodes.items c.args.to.coded)) (λ what. called_as k (with_types c.args.self.now.withs.now) (exprs (map expr_view c.args.args.now)) what)) (count_given expr_view c.args.args.now))
+
+pub called_with-passed-requires : goal.called_with-passed-requires
+called_with-passed-requires g t c κs within = (search rules, (within, ((rw c.called.ensures.keeps.site (suits_after (rw c.in-Known.is at c.in-Ok.ensures.codes) c.requires.suits)), ((rw c.called.ensures.keeps.withs (open_after (rw c.in-Known.is at c.in-Ok.ensures.codes) c.args.self.now.withs.now c.requires.withs)), (rw c.deref.ensures.value (rw c.in-Procedure.is at (stands_after (rw c.in-Known.is at c.in-Ok.ensures.codes))).params, (rw c.called.ensures.keeps.site c.requires.read))))))
+
+pub called_with-returns-in-DontKnowYet-asked-clause-codes : goal.called_with-returns-in-DontKnowYet-asked-clause-codes
+called_with-returns-in-DontKnowYet-asked-clause-codes g t c = unknown_after (rw c.in-Known.is at c.in-Ok.ensures.codes) (rw c.called.ensures.keeps.withs at (rw c.called.ensures.keeps.site at (rw c.in-DontKnowYet-asked.is at c.in-Ok-passed.ensures.codes)))
+
+pub called_with-returns-in-Err-passed-clause-codes : goal.called_with-returns-in-Err-passed-clause-codes
+called_with-returns-in-Err-passed-clause-codes g t c = unmade_after (rw c.in-Known.is at c.in-Ok.ensures.codes) (rw c.called.ensures.keeps.withs at (rw c.called.ensures.keeps.site at c.in-Err-passed.ensures.codes)) _
+
+pub called_with-call_coded-requires-clause-suits : goal.called_with-call_coded-requires-clause-suits
+called_with-call_coded-requires-clause-suits g t c = rw c.passed.ensures.keeps.site (suits_after (rw c.in-Known-asked.is at c.in-Ok-passed.ensures.codes) (rw c.called.ensures.keeps.site (suits_after (rw c.in-Known.is at c.in-Ok.ensures.codes) c.requires.suits)))
+
+pub called_with-call_coded-requires-clause-callee : goal.called_with-call_coded-requires-clause-callee
+called_with-call_coded-requires-clause-callee g t c = callee_after (rw c.in-Known-asked.is at c.in-Ok-passed.ensures.codes) c.in-Procedure.callee (rw c.in-Procedure.is at (stands_after (rw c.in-Known.is at c.in-Ok.ensures.codes)))
+
+pub called_with-call_coded-requires-clause-args : goal.called_with-call_coded-requires-clause-args
+called_with-call_coded-requires-clause-args g t c = stands_after (rw c.in-Known-asked.is at c.in-Ok-passed.ensures.codes)
+
+pub called_with-returns-in-Procedure-clause-codes : goal.called_with-returns-in-Procedure-clause-codes
+called_with-returns-in-Procedure-clause-codes g t c =
+    let r = c.call_coded.result in
+    let two = (rw c.deref.ensures.value at (rw c.called.ensures.keeps.withs at (rw c.called.ensures.keeps.site at (rw c.in-Known-asked.is at c.in-Ok-passed.ensures.codes)))) in
+    let p = c.in-Procedure.callee in
+    described r (coding_after (λ k. called k c.args.is_wanted c.args.to.at (length c.args.args.now) (coded_in c.args.self.now.fragments.now.nodes.items c.args.to.coded)) (λ what k. called_as k (with_types c.args.self.now.withs.now) (exprs (map expr_view c.args.args.now)) what) r (rw c.in-Known.is at c.in-Ok.ensures.codes) (described r (coding_after (λ k. passed k (with_types c.args.self.now.withs.now) (map parameter_view p.params.items) (exprs (map expr_view c.args.args.now))) (λ codes k. gives (call_coded k.scene (map parameter_view p.params.items) (part (c.called.new.self.fragments.now.nodes.items) p.before) p.instr p.result p.more codes)) r two
+    (described r (rw c.called.ensures.keeps.site at (rw c.passed.ensures.keeps.site at c.call_coded.ensures.codes)) (λ k. ap (λ (before : Part). gives (call_coded k.scene (map parameter_view p.params.items) before p.instr p.result p.more (argument_in (c.passed.new.self.fragments.now.nodes.items) c.in-Known-asked.value))) (part_later two.grows p.before (rw c.in-Procedure.is at (stands_after (rw c.in-Known.is at c.in-Ok.ensures.codes))).before)))) (λ k. ap (λ (w : Callable). called_as k (with_types c.args.self.now.withs.now) (exprs (map expr_view c.args.args.now)) (called_in c.called.new.self.fragments.now.nodes.items w)) (sym c.in-Procedure.is))))
+    (λ k. ap (λ (n : ℕ). and_then (called k c.args.is_wanted c.args.to.at n (coded_in c.args.self.now.fragments.now.nodes.items c.args.to.coded)) (λ what. called_as k (with_types c.args.self.now.withs.now) (exprs (map expr_view c.args.args.now)) what)) (count_given expr_view c.args.args.now))
+
+pub called_with-passed-requires-in-Lacking : goal.called_with-passed-requires-in-Lacking
+called_with-passed-requires-in-Lacking g t c κs within = (search rules, (within, ((rw c.called.ensures.keeps.site (suits_after (rw c.in-Known.is at c.in-Ok.ensures.codes) c.requires.suits)), ((rw c.called.ensures.keeps.withs (open_after (rw c.in-Known.is at c.in-Ok.ensures.codes) c.args.self.now.withs.now c.requires.withs)), (rw c.deref-in-Lacking.ensures.value (rw c.in-Lacking.is at (stands_after (rw c.in-Known.is at c.in-Ok.ensures.codes))), (rw c.called.ensures.keeps.site c.requires.read))))))
+
+pub called_with-returns-in-DontKnowYet-asked-2-clause-codes : goal.called_with-returns-in-DontKnowYet-asked-2-clause-codes
+called_with-returns-in-DontKnowYet-asked-2-clause-codes g t c = unknown_after (rw c.in-Known.is at c.in-Ok.ensures.codes) (rw c.called.ensures.keeps.withs at (rw c.called.ensures.keeps.site at (rw c.in-DontKnowYet-asked-2.is at c.in-Ok-passed-2.ensures.codes)))
+
+pub called_with-returns-in-Err-passed-2-clause-codes : goal.called_with-returns-in-Err-passed-2-clause-codes
+called_with-returns-in-Err-passed-2-clause-codes g t c = unmade_after (rw c.in-Known.is at c.in-Ok.ensures.codes) (rw c.called.ensures.keeps.withs at (rw c.called.ensures.keeps.site at c.in-Err-passed-2.ensures.codes)) _
+
+pub called_with-returns-in-Lacking-clause-codes : goal.called_with-returns-in-Lacking-clause-codes
+called_with-returns-in-Lacking-clause-codes g t c =
+    let r = Ok (Known c.in_error.result) in
+    let ms = c.passed-in-Lacking.new.self.fragments.now.nodes.items in
+    let state = g.S.Scopes.state c.passed-in-Lacking.new.self.scopes.now in
+    described r (coding_after (λ k. called k c.args.is_wanted c.args.to.at (length c.args.args.now) (coded_in c.args.self.now.fragments.now.nodes.items c.args.to.coded)) (λ what k. called_as k (with_types c.args.self.now.withs.now) (exprs (map expr_view c.args.args.now)) what) r (rw c.in-Known.is at c.in-Ok.ensures.codes) (described r (coding_after (λ k. passed k (with_types c.args.self.now.withs.now) (map parameter_view c.in-Lacking.params.items) (exprs (map expr_view c.args.args.now))) (λ codes k. gives in_error) r ((rw c.deref-in-Lacking.ensures.value at (rw c.called.ensures.keeps.withs at (rw c.called.ensures.keeps.site at (rw c.in-Known-asked-2.is at c.in-Ok-passed-2.ensures.codes)))))
+    (value_alone state c.passed-in-Lacking.new.self.notes.now ms c.args.self.now.site.now c.in_error.result IsCoded coded_in (λ k. in_error) (c.in_error.ensures.there state.frame ms) (λ k. c.in_error.ensures.told ms))) (λ k. ap (λ (w : Callable). called_as k (with_types c.args.self.now.withs.now) (exprs (map expr_view c.args.args.now)) (called_in c.called.new.self.fragments.now.nodes.items w)) (sym c.in-Lacking.is))))
+    (λ k. ap (λ (n : ℕ). and_then (called k c.args.is_wanted c.args.to.at n (coded_in c.args.self.now.fragments.now.nodes.items c.args.to.coded)) (λ what. called_as k (with_types c.args.self.now.withs.now) (exprs (map expr_view c.args.args.now)) what)) (count_given expr_view c.args.args.now))
+
+pub called_with-looked_at-requires : goal.called_with-looked_at-requires
+called_with-looked_at-requires g t c κs within = (search rules, (within, ((rw c.called.ensures.keeps.site (suits_after (rw c.in-Known.is at c.in-Ok.ensures.codes) c.requires.suits)), ((rw c.called.ensures.keeps.withs (open_after (rw c.in-Known.is at c.in-Ok.ensures.codes) c.args.self.now.withs.now c.requires.withs)), (rw c.called.ensures.keeps.site c.requires.read)))))
+
+pub called_with-returns-clause-codes : goal.called_with-returns-clause-codes
+called_with-returns-clause-codes g t c =
+    let r = c.looked_at.result in
+    described r (coding_after (λ k. called k c.args.is_wanted c.args.to.at (length c.args.args.now) (coded_in c.args.self.now.fragments.now.nodes.items c.args.to.coded)) (λ what k. called_as k (with_types c.args.self.now.withs.now) (exprs (map expr_view c.args.args.now)) what) r (rw c.in-Known.is at c.in-Ok.ensures.codes) (described r (rw c.called.ensures.keeps.withs at (rw c.called.ensures.keeps.site at c.looked_at.ensures.codes)) (λ k. ap (λ (w : Callable). called_as k (with_types c.args.self.now.withs.now) (exprs (map expr_view c.args.args.now)) (called_in c.called.new.self.fragments.now.nodes.items w)) (sym c.in-Nothing.is))))
+    (λ k. ap (λ (n : ℕ). and_then (called k c.args.is_wanted c.args.to.at n (coded_in c.args.self.now.fragments.now.nodes.items c.args.to.coded)) (λ what. called_as k (with_types c.args.self.now.withs.now) (exprs (map expr_view c.args.args.now)) what)) (count_given expr_view c.args.args.now))
 
 pub designated-name_coded-requires-clause-named : goal.designated-name_coded-requires-clause-named
 designated-name_coded-requires-clause-named g t c = (designator_read c.args.self.now.site.now.texts.now.names c.args.of.now c.requires.read).0
@@ -266,14 +310,34 @@ designated-returns-in-DontKnowYet-clause-codes g t c = unknown (rw c.in-DontKnow
 pub designated-returns-in-Err-clause-codes : goal.designated-returns-in-Err-clause-codes
 designated-returns-in-Err-clause-codes g t c = unmade c.in-Err.ensures.codes _
 
-pub designated-selected-requires : goal.designated-selected-requires
-designated-selected-requires g t c κs within =
-    ((let small = rest_smaller c.args.of.now in let same = ap (most size-Selector) c.deref.ensures.value in omega (arith, small, same, c.decreases)), (within, ((rw c.name_coded.ensures.keeps.site (suits_after (rw c.in-Known.is at c.in-Ok.ensures.codes) c.requires.suits)), ((rw c.name_coded.ensures.keeps.withs (open_after (rw c.in-Known.is at c.in-Ok.ensures.codes) c.args.self.now.withs.now c.requires.withs)), (stands_after (rw c.in-Known.is at c.in-Ok.ensures.codes), (rw c.name_coded.ensures.keeps.site (rw c.deref.ensures.value (designator_read c.args.self.now.site.now.texts.now.names c.args.of.now c.requires.read).1)))))))
+pub designated-loop-selector-init : goal.designated-loop-selector-init
+designated-loop-selector-init g t c = (
+  c.name_coded.ensures.keeps,
+  (value_alone (g.S.Scopes.state c.name_coded.new.self.scopes.now) c.name_coded.new.self.notes.now c.name_coded.new.self.fragments.now.nodes.items c.args.self.now.site.now c.in-Known.value IsCoded coded_in (λ k. (coded_in c.name_coded.new.self.fragments.now.nodes.items c.in-Known.value)) (stands_after (rw c.in-Known.is at c.in-Ok.ensures.codes)) (λ k. refl)),
+)
+
+pub designated-select-requires : goal.designated-select-requires
+designated-select-requires g t c κs within =
+    ((let small = item_small size-Selector c.deref-rest.result.now c.loop-selector.selector-index c.selector-item.result c.loop-selector-test.true c.selector-item.is in let rest = rest_smaller c.args.of.now in let same = ap (most size-Selector) c.deref-rest.ensures.value in omega (arith, small, rest, same, c.decreases)), (within, ((rw c.loop-selector.invariant.0.site (suits_after c.loop-selector.invariant.1 (suits_after (rw c.in-Known.is at c.in-Ok.ensures.codes) c.requires.suits))), ((rw c.loop-selector.invariant.0.withs (open_after c.loop-selector.invariant.1 c.args.self.now.withs.now (open_after (rw c.in-Known.is at c.in-Ok.ensures.codes) c.args.self.now.withs.now c.requires.withs))), (stands_after c.loop-selector.invariant.1, (rw c.loop-selector.invariant.0.site (read_selector c.args.self.now.site.now.texts.now.names selector_view c.deref-rest.result.now c.loop-selector.selector-index c.selector-item.result c.loop-selector-test.true c.selector-item.is (rw c.deref-rest.ensures.value (designator_read c.args.self.now.site.now.texts.now.names c.args.of.now c.requires.read).1))))))))
+
+pub designated-loop-selector-preserved : goal.designated-loop-selector-preserved
+designated-loop-selector-preserved g t c = (
+  (Keeps-trans c.loop-selector.invariant.0 c.select.ensures.keeps),
+  (one_more (λ k o i. selector k (with_types c.args.self.now.withs.now) c.args.of.now.first.at o (selector_view i)) (coded_in c.name_coded.new.self.fragments.now.nodes.items c.in-Known.value) c.deref-rest.result.now c.loop-selector.selector-index c.selector-item.result c.loop-selector-test.true c.selector-item.is c.loop-selector.invariant.1 (rw c.loop-selector.invariant.0.withs at (rw c.loop-selector.invariant.0.site at (rw c.in-Known-asked.is at c.in-Ok-select.ensures.codes)))),
+)
+
+pub designated-returns-in-DontKnowYet-asked-clause-codes : goal.designated-returns-in-DontKnowYet-asked-clause-codes
+designated-returns-in-DontKnowYet-asked-clause-codes g t c = then_unknown (followed_by (by_coding (rw c.in-Known.is at c.in-Ok.ensures.codes)) (by_coding c.loop-selector.invariant.1)) (rw c.loop-selector.invariant.0.withs at (rw c.loop-selector.invariant.0.site at (rw c.in-DontKnowYet-asked.is at c.in-Ok-select.ensures.codes)))
+
+pub designated-returns-in-Err-select-clause-codes : goal.designated-returns-in-Err-select-clause-codes
+designated-returns-in-Err-select-clause-codes g t c = then_wanted (followed_by (by_coding (rw c.in-Known.is at c.in-Ok.ensures.codes)) (by_coding c.loop-selector.invariant.1)) (rw c.loop-selector.invariant.0.withs at (rw c.loop-selector.invariant.0.site at c.in-Err-select.ensures.codes)) _
 
 pub designated-returns-clause-codes : goal.designated-returns-clause-codes
 designated-returns-clause-codes g t c =
     let d = c.args.of.now in
-    described c.selected.result (coding_after (λ k. name_coded k (with_types c.args.self.now.withs.now) d.first) (λ x k. selected k (with_types c.args.self.now.withs.now) d.first.at x (selectors (map selector_view d.rest.items))) c.selected.result (rw c.in-Known.is at c.in-Ok.ensures.codes) (rw c.deref.ensures.value at (rw c.name_coded.ensures.keeps.withs at (rw c.name_coded.ensures.keeps.site at c.selected.ensures.codes)))) (λ k. ap (designated k (with_types c.args.self.now.withs.now)) (sym (designator_seen d)))
+    let end = Ok (Known c.loop-selector.x) in
+    let all = whole (λ k o i. selector k (with_types c.args.self.now.withs.now) d.first.at o (selector_view i)) (coded_in c.name_coded.new.self.fragments.now.nodes.items c.in-Known.value) c.deref-rest.result.now c.loop-selector.selector-index (λ k. selected k (with_types c.args.self.now.withs.now) d.first.at (coded_in c.name_coded.new.self.fragments.now.nodes.items c.in-Known.value) (selectors (map selector_view c.deref-rest.result.now))) c.loop-selector-test.false c.loop-selector.invariant.1 (λ k. selectors_folded k (with_types c.args.self.now.withs.now) selector_view d.first.at (coded_in c.name_coded.new.self.fragments.now.nodes.items c.in-Known.value) c.deref-rest.result.now) in
+    described end (coding_after (λ k. name_coded k (with_types c.args.self.now.withs.now) d.first) (λ x k. selected k (with_types c.args.self.now.withs.now) d.first.at x (selectors (map selector_view d.rest.items))) end (rw c.in-Known.is at c.in-Ok.ensures.codes) (rw c.deref-rest.ensures.value at all)) (λ k. ap (designated k (with_types c.args.self.now.withs.now)) (sym (designator_seen d)))
 
 pub select-select_field-requires-clause-named : goal.select-select_field-requires-clause-named
 select-select_field-requires-clause-named g t c = selector_read c.args.self.now.site.now.texts.now.names c.args.selector.now _ (ap selector_view c.in-Field.is ∙ field_seen c.in-Field.ident c.in-Field.at) c.requires.read
@@ -297,15 +361,41 @@ continued-loop-next-init g t c = (
   (value_alone (g.S.Scopes.state c.args.self.now.scopes.now) c.args.self.now.notes.now c.args.self.now.fragments.now.nodes.items c.args.self.now.site.now c.args.left.coded IsCoded coded_in (λ k. coded_in c.args.self.now.fragments.now.nodes.items c.args.left.coded) c.requires.left (λ k. refl)),
 )
 
-pub continued-followed-requires : goal.continued-followed-requires
-continued-followed-requires g t c κs within =
-    ((let small = item_small size-Next c.args.rest.now c.loop-next.next-index c.next-item.result c.loop-next-test.true c.next-item.is in omega (arith, small, c.decreases)), (within, ((rw c.loop-next.invariant.0.site (suits_after c.loop-next.invariant.1 c.requires.suits)), ((rw c.loop-next.invariant.0.withs (open_after c.loop-next.invariant.1 c.args.self.now.withs.now c.requires.withs)), (stands_after c.loop-next.invariant.1, (rw c.loop-next.invariant.0.site (read_next c.args.self.now.site.now.texts.now.names next_view c.args.rest.now c.loop-next.next-index c.next-item.result c.loop-next-test.true c.next-item.is c.requires.read)))))))
+pub continued-value_of-requires : goal.continued-value_of-requires
+continued-value_of-requires g t c κs within =
+    ((let small = item_small size-Next c.args.rest.now c.loop-next.next-index c.next-item.result c.loop-next-test.true c.next-item.is in let right = next_smaller c.next-item.result in omega (arith, small, right, c.decreases)), (within, ((rw c.loop-next.invariant.0.site (suits_after c.loop-next.invariant.1 c.requires.suits)), ((rw c.loop-next.invariant.0.withs (open_after c.loop-next.invariant.1 c.args.self.now.withs.now c.requires.withs)), (rw c.loop-next.invariant.0.site (next_read c.args.self.now.site.now.texts.now.names c.next-item.result (read_next c.args.self.now.site.now.texts.now.names next_view c.args.rest.now c.loop-next.next-index c.next-item.result c.loop-next-test.true c.next-item.is c.requires.read)))))))
+
+pub continued-two_coded-requires-clause-suits : goal.continued-two_coded-requires-clause-suits
+continued-two_coded-requires-clause-suits g t c = rw c.value_of.ensures.keeps.site (suits_after (rw c.in-Known.is at c.in-Ok.ensures.codes) (rw c.loop-next.invariant.0.site (suits_after c.loop-next.invariant.1 c.requires.suits)))
+
+pub continued-two_coded-requires-clause-x : goal.continued-two_coded-requires-clause-x
+continued-two_coded-requires-clause-x g t c = coded_after (rw c.in-Known.is at c.in-Ok.ensures.codes) c.loop-next.x (stands_after c.loop-next.invariant.1)
+
+pub continued-two_coded-requires-clause-y : goal.continued-two_coded-requires-clause-y
+continued-two_coded-requires-clause-y g t c = stands_after (rw c.in-Known.is at c.in-Ok.ensures.codes)
+
+pub continued-returns-in-DontKnowYet-asked-clause-codes : goal.continued-returns-in-DontKnowYet-asked-clause-codes
+continued-returns-in-DontKnowYet-asked-clause-codes g t c =
+    then_unknown (followed_by (by_coding c.loop-next.invariant.1) (by_coding (rw c.loop-next.invariant.0.withs at (rw c.loop-next.invariant.0.site at (rw c.in-Known.is at c.in-Ok.ensures.codes))))) (rw c.loop-next.invariant.0.site at (rw c.value_of.ensures.keeps.site at (rw c.in-DontKnowYet-asked.is at c.in-Ok-two_coded.ensures.codes)))
+
+pub continued-returns-in-Err-two_coded-clause-codes : goal.continued-returns-in-Err-two_coded-clause-codes
+continued-returns-in-Err-two_coded-clause-codes g t c =
+    then_wanted (followed_by (by_coding c.loop-next.invariant.1) (by_coding (rw c.loop-next.invariant.0.withs at (rw c.loop-next.invariant.0.site at (rw c.in-Known.is at c.in-Ok.ensures.codes))))) (rw c.loop-next.invariant.0.site at (rw c.value_of.ensures.keeps.site at c.in-Err-two_coded.ensures.codes)) _
 
 pub continued-loop-next-preserved : goal.continued-loop-next-preserved
-continued-loop-next-preserved g t c = (
-  (Keeps-trans c.loop-next.invariant.0 c.followed.ensures.keeps),
-  (one_more (λ k o i. followed k (with_types c.args.self.now.withs.now) c.args.left.at o (next_view i)) (coded_in c.args.self.now.fragments.now.nodes.items c.args.left.coded) c.args.rest.now c.loop-next.next-index c.next-item.result c.loop-next-test.true c.next-item.is c.loop-next.invariant.1 (rw c.loop-next.invariant.0.withs at (rw c.loop-next.invariant.0.site at (rw c.in-Known.is at c.in-Ok.ensures.codes)))),
-)
+continued-loop-next-preserved g t c =
+    let n = c.next-item.result in
+    let first = c.args.left.at in
+    let left = coded_in c.loop-next.self.fragments.now.nodes.items c.loop-next.x in
+    let made = Ok (Known c.in-Known-asked.value) in
+    let one = (rw c.loop-next.invariant.0.withs at (rw c.loop-next.invariant.0.site at (rw c.in-Known.is at c.in-Ok.ensures.codes))) in
+    let two = (rw c.loop-next.invariant.0.site at (rw c.value_of.ensures.keeps.site at (rw c.in-Known-asked.is at c.in-Ok-two_coded.ensures.codes))) in (
+      (Keeps-trans c.loop-next.invariant.0 (Keeps-trans c.value_of.ensures.keeps c.two_coded.ensures.keeps)),
+      (one_more (λ k o i. followed k (with_types c.args.self.now.withs.now) first o (next_view i)) (coded_in c.args.self.now.fragments.now.nodes.items c.args.left.coded) c.args.rest.now c.loop-next.next-index c.next-item.result c.loop-next-test.true c.next-item.is c.loop-next.invariant.1
+          (described made (coding_after (λ k. value k (with_types c.args.self.now.withs.now) (expr_view n.right)) (λ v k. two_coded k n.op n.op_at first left n.right.at v) made one
+          (described made two (λ k. ap (λ (l : code.Coded). two_coded k n.op n.op_at first l n.right.at (coded_in c.value_of.new.self.fragments.now.nodes.items c.in-Known.value)) (coded_later one.grows c.loop-next.x (stands_after c.loop-next.invariant.1)))))
+          (λ k. ap (λ (at : ℕ). and_then (value k (with_types c.args.self.now.withs.now) (expr_view n.right)) (λ v. two_coded k n.op n.op_at first left at v)) (sym (at_seen n.right)) ∙ next_given k (with_types c.args.self.now.withs.now) first left n.op n.op_at (expr_view n.right) ∙ ap (followed k (with_types c.args.self.now.withs.now) first left) (sym (next_seen n))))),
+    )
 
 pub continued-returns-in-DontKnowYet-clause-codes : goal.continued-returns-in-DontKnowYet-clause-codes
 continued-returns-in-DontKnowYet-clause-codes g t c = unknown_after c.loop-next.invariant.1 (rw c.loop-next.invariant.0.withs at (rw c.loop-next.invariant.0.site at (rw c.in-DontKnowYet.is at c.in-Ok.ensures.codes)))
@@ -343,47 +433,47 @@ pub elements-returns-clause-codes : goal.elements-returns-clause-codes
 elements-returns-clause-codes g t c =
     whole (λ k o i. element k (with_types c.args.self.now.withs.now) c.args.base o (label_view i)) (elements_in c.args.self.now.fragments.now.nodes.items c.args.es) c.args.items.now c.loop-label.label-index (λ k. elements k (with_types c.args.self.now.withs.now) c.args.base (elements_in c.args.self.now.fragments.now.nodes.items c.args.es) (labels (map label_view c.args.items.now))) c.loop-label-test.false c.loop-label.invariant.1 (λ k. labels_folded k (with_types c.args.self.now.withs.now) label_view c.args.base (elements_in c.args.self.now.fragments.now.nodes.items c.args.es) c.args.items.now)
 
-pub selected-loop-selector-init : goal.selected-loop-selector-init
-selected-loop-selector-init g t c = (
-  (Keeps-refl c.args.self.now),
-  (value_alone (g.S.Scopes.state c.args.self.now.scopes.now) c.args.self.now.notes.now c.args.self.now.fragments.now.nodes.items c.args.self.now.site.now c.args.x IsCoded coded_in (λ k. coded_in c.args.self.now.fragments.now.nodes.items c.args.x) c.requires.x (λ k. refl)),
-)
-
-pub selected-select-requires : goal.selected-select-requires
-selected-select-requires g t c κs within =
-    ((let small = item_small size-Selector c.args.rest.now c.loop-selector.selector-index c.selector-item.result c.loop-selector-test.true c.selector-item.is in omega (arith, small, c.decreases)), (within, ((rw c.loop-selector.invariant.0.site (suits_after c.loop-selector.invariant.1 c.requires.suits)), ((rw c.loop-selector.invariant.0.withs (open_after c.loop-selector.invariant.1 c.args.self.now.withs.now c.requires.withs)), (stands_after c.loop-selector.invariant.1, (rw c.loop-selector.invariant.0.site (read_selector c.args.self.now.site.now.texts.now.names selector_view c.args.rest.now c.loop-selector.selector-index c.selector-item.result c.loop-selector-test.true c.selector-item.is c.requires.read)))))))
-
-pub selected-loop-selector-preserved : goal.selected-loop-selector-preserved
-selected-loop-selector-preserved g t c = (
-  (Keeps-trans c.loop-selector.invariant.0 c.select.ensures.keeps),
-  (one_more (λ k o i. selector k (with_types c.args.self.now.withs.now) c.args.first o (selector_view i)) (coded_in c.args.self.now.fragments.now.nodes.items c.args.x) c.args.rest.now c.loop-selector.selector-index c.selector-item.result c.loop-selector-test.true c.selector-item.is c.loop-selector.invariant.1 (rw c.loop-selector.invariant.0.withs at (rw c.loop-selector.invariant.0.site at (rw c.in-Known.is at c.in-Ok.ensures.codes)))),
-)
-
-pub selected-returns-in-DontKnowYet-clause-codes : goal.selected-returns-in-DontKnowYet-clause-codes
-selected-returns-in-DontKnowYet-clause-codes g t c = unknown_after c.loop-selector.invariant.1 (rw c.loop-selector.invariant.0.withs at (rw c.loop-selector.invariant.0.site at (rw c.in-DontKnowYet.is at c.in-Ok.ensures.codes)))
-
-pub selected-returns-in-Err-clause-codes : goal.selected-returns-in-Err-clause-codes
-selected-returns-in-Err-clause-codes g t c = unmade_after c.loop-selector.invariant.1 (rw c.loop-selector.invariant.0.withs at (rw c.loop-selector.invariant.0.site at c.in-Err.ensures.codes)) _
-
-pub selected-returns-clause-codes : goal.selected-returns-clause-codes
-selected-returns-clause-codes g t c =
-    whole (λ k o i. selector k (with_types c.args.self.now.withs.now) c.args.first o (selector_view i)) (coded_in c.args.self.now.fragments.now.nodes.items c.args.x) c.args.rest.now c.loop-selector.selector-index (λ k. selected k (with_types c.args.self.now.withs.now) c.args.first (coded_in c.args.self.now.fragments.now.nodes.items c.args.x) (selectors (map selector_view c.args.rest.now))) c.loop-selector-test.false c.loop-selector.invariant.1 (λ k. selectors_folded k (with_types c.args.self.now.withs.now) selector_view c.args.first (coded_in c.args.self.now.fragments.now.nodes.items c.args.x) c.args.rest.now)
-
 pub indexed-loop-e-init : goal.indexed-loop-e-init
 indexed-loop-e-init g t c = (
   (Keeps-refl c.args.self.now),
   (value_alone (g.S.Scopes.state c.args.self.now.scopes.now) c.args.self.now.notes.now c.args.self.now.fragments.now.nodes.items c.args.self.now.site.now c.args.x IsCoded coded_in (λ k. coded_in c.args.self.now.fragments.now.nodes.items c.args.x) c.requires.x (λ k. refl)),
 )
 
-pub indexed-index-requires : goal.indexed-index-requires
-indexed-index-requires g t c κs within =
-    ((let small = item_small size-Expr c.args.es.now c.loop-e.e-index c.e-item.result c.loop-e-test.true c.e-item.is in omega (arith, small, c.decreases)), (within, ((rw c.loop-e.invariant.0.site (suits_after c.loop-e.invariant.1 c.requires.suits)), ((rw c.loop-e.invariant.0.withs (open_after c.loop-e.invariant.1 c.args.self.now.withs.now c.requires.withs)), (stands_after c.loop-e.invariant.1, (rw c.loop-e.invariant.0.site (read_expr c.args.self.now.site.now.texts.now.names expr_view c.args.es.now c.loop-e.e-index c.e-item.result c.loop-e-test.true c.e-item.is c.requires.read)))))))
+pub indexed-value_of-requires : goal.indexed-value_of-requires
+indexed-value_of-requires g t c κs within =
+    ((let small = item_small size-Expr c.args.es.now c.loop-e.e-index c.e-item.result c.loop-e-test.true c.e-item.is in omega (arith, small, c.decreases)), (within, ((rw c.loop-e.invariant.0.site (suits_after c.loop-e.invariant.1 c.requires.suits)), ((rw c.loop-e.invariant.0.withs (open_after c.loop-e.invariant.1 c.args.self.now.withs.now c.requires.withs)), (rw c.loop-e.invariant.0.site (read_expr c.args.self.now.site.now.texts.now.names expr_view c.args.es.now c.loop-e.e-index c.e-item.result c.loop-e-test.true c.e-item.is c.requires.read))))))
+
+pub indexed-select_element-requires-clause-suits : goal.indexed-select_element-requires-clause-suits
+indexed-select_element-requires-clause-suits g t c = rw c.value_of.ensures.keeps.site (suits_after (rw c.in-Known.is at c.in-Ok.ensures.codes) (rw c.loop-e.invariant.0.site (suits_after c.loop-e.invariant.1 c.requires.suits)))
+
+pub indexed-select_element-requires-clause-index : goal.indexed-select_element-requires-clause-index
+indexed-select_element-requires-clause-index g t c = stands_after (rw c.in-Known.is at c.in-Ok.ensures.codes)
+
+pub indexed-select_element-requires-clause-x : goal.indexed-select_element-requires-clause-x
+indexed-select_element-requires-clause-x g t c = coded_after (rw c.in-Known.is at c.in-Ok.ensures.codes) c.loop-e.y (stands_after c.loop-e.invariant.1)
+
+pub indexed-returns-in-DontKnowYet-asked-clause-codes : goal.indexed-returns-in-DontKnowYet-asked-clause-codes
+indexed-returns-in-DontKnowYet-asked-clause-codes g t c =
+    then_unknown (followed_by (by_coding c.loop-e.invariant.1) (by_coding (rw c.loop-e.invariant.0.withs at (rw c.loop-e.invariant.0.site at (rw c.in-Known.is at c.in-Ok.ensures.codes))))) (rw c.loop-e.invariant.0.site at (rw c.value_of.ensures.keeps.site at (rw c.in-DontKnowYet-asked.is at c.in-Ok-select_element.ensures.codes)))
+
+pub indexed-returns-in-Err-select_element-clause-codes : goal.indexed-returns-in-Err-select_element-clause-codes
+indexed-returns-in-Err-select_element-clause-codes g t c =
+    then_wanted (followed_by (by_coding c.loop-e.invariant.1) (by_coding (rw c.loop-e.invariant.0.withs at (rw c.loop-e.invariant.0.site at (rw c.in-Known.is at c.in-Ok.ensures.codes))))) (rw c.loop-e.invariant.0.site at (rw c.value_of.ensures.keeps.site at c.in-Err-select_element.ensures.codes)) _
 
 pub indexed-loop-e-preserved : goal.indexed-loop-e-preserved
-indexed-loop-e-preserved g t c = (
-  (Keeps-trans c.loop-e.invariant.0 c.index.ensures.keeps),
-  (one_more (λ k o i. index k (with_types c.args.self.now.withs.now) c.args.first c.args.at o (expr_view i)) (coded_in c.args.self.now.fragments.now.nodes.items c.args.x) c.args.es.now c.loop-e.e-index c.e-item.result c.loop-e-test.true c.e-item.is c.loop-e.invariant.1 (at_old g.S.Scopes.state c.index.new.self (λ ws k. index k (with_types ws) c.args.first c.args.at (coded_in (nodes_of c.loop-e.self) c.loop-e.y) (expr_view c.e-item.result)) c.loop-e.invariant.0 (rw c.in-Known.is at c.in-Ok.ensures.codes))),
-)
+indexed-loop-e-preserved g t c =
+    let e = c.e-item.result in
+    let y = coded_in c.loop-e.self.fragments.now.nodes.items c.loop-e.y in
+    let i = coded_in c.value_of.new.self.fragments.now.nodes.items c.in-Known.value in
+    let made = Ok (Known c.in-Known-asked.value) in
+    let one = (rw c.loop-e.invariant.0.withs at (rw c.loop-e.invariant.0.site at (rw c.in-Known.is at c.in-Ok.ensures.codes))) in
+    let two = (rw c.loop-e.invariant.0.site at (rw c.value_of.ensures.keeps.site at (rw c.in-Known-asked.is at c.in-Ok-select_element.ensures.codes))) in (
+      (Keeps-trans c.loop-e.invariant.0 (Keeps-trans c.value_of.ensures.keeps c.select_element.ensures.keeps)),
+      (one_more (λ k o i. index k (with_types c.args.self.now.withs.now) c.args.first c.args.at o (expr_view i)) (coded_in c.args.self.now.fragments.now.nodes.items c.args.x) c.args.es.now c.loop-e.e-index c.e-item.result c.loop-e-test.true c.e-item.is c.loop-e.invariant.1
+          (described made (coding_after (λ k. value k (with_types c.args.self.now.withs.now) (expr_view e)) (λ v k. select_element k c.args.first c.args.at e.at v y) made one
+          (described made two (λ k. ap (λ (x : code.Coded). select_element k c.args.first c.args.at e.at i x) (coded_later one.grows c.loop-e.y (stands_after c.loop-e.invariant.1)))))
+          (λ k. ap (λ (at : ℕ). and_then (value k (with_types c.args.self.now.withs.now) (expr_view e)) (λ v. select_element k c.args.first c.args.at at v y)) (sym (at_seen e))))),
+    )
 
 pub indexed-returns-in-DontKnowYet-clause-codes : goal.indexed-returns-in-DontKnowYet-clause-codes
 indexed-returns-in-DontKnowYet-clause-codes g t c = unknown_after c.loop-e.invariant.1 (rw c.loop-e.invariant.0.withs at (rw c.loop-e.invariant.0.site at (rw c.in-DontKnowYet.is at c.in-Ok.ensures.codes)))
@@ -493,53 +583,6 @@ expression-returns-in-Known-asked-3-clause-codes g t c =
     described c.continued.result (coding_after (λ k. value k (with_types c.args.self.now.withs.now) (expr_view first)) (λ x k. continued k (with_types c.args.self.now.withs.now) first.at x rest) c.continued.result (rw c.deref-in-Many.ensures at (rw c.in-Known-asked-3.is at c.in-Ok-value_of-2.ensures.codes)) (rw c.deref-in-Many-2.ensures at (rw c.deref-in-Many-3.ensures.value at (rw c.value_of-in-Many.ensures.keeps.withs at (rw c.value_of-in-Many.ensures.keeps.site at c.continued.ensures.codes)))))
     (λ k. ap (λ (at : ℕ). and_then (value k (with_types c.args.self.now.withs.now) (expr_view first)) (λ x. continued k (with_types c.args.self.now.withs.now) at x rest)) (sym (at_seen first)) ∙ many_given k (with_types c.args.self.now.withs.now) (expr_view first) rest ∙ form_given k (with_types c.args.self.now.withs.now) c.args.e.now _ _ c.in-Many.is (many_seen c.in-Many.first c.in-Many.rest))
 
-pub first_argument-expression-requires : goal.first_argument-expression-requires
-first_argument-expression-requires g t c κs within = (search rules, (within, (c.requires.suits, (c.requires.withs, (c.requires.read)))))
-
-pub first_argument-returns-in-DontKnowYet-clause-codes : goal.first_argument-returns-in-DontKnowYet-clause-codes
-first_argument-returns-in-DontKnowYet-clause-codes g t c = unknown (rw c.in-DontKnowYet.is at c.in-Ok.ensures.codes)
-
-pub first_argument-returns-in-Err-clause-codes : goal.first_argument-returns-in-Err-clause-codes
-first_argument-returns-in-Err-clause-codes g t c = unmade c.in-Err.ensures.codes _
-
-pub first_argument-first_of_two-requires-clause-suits : goal.first_argument-first_of_two-requires-clause-suits
-first_argument-first_of_two-requires-clause-suits g t c = (rw c.expression.ensures.keeps.site (suits_after (rw c.in-Known.is at c.in-Ok.ensures.codes) c.requires.suits))
-
-pub first_argument-first_of_two-requires-clause-x : goal.first_argument-first_of_two-requires-clause-x
-first_argument-first_of_two-requires-clause-x g t c = stands_after (rw c.in-Known.is at c.in-Ok.ensures.codes)
-
-pub first_argument-returns-clause-codes : goal.first_argument-returns-clause-codes
-first_argument-returns-clause-codes g t c =
-    let e = c.args.e.now in
-    described c.first_of_two.result (coding_after (λ k. expression k (with_types c.args.self.now.withs.now) (expr_view e)) (λ x k. first_of_two k c.args.f e.at x) c.first_of_two.result (rw c.in-Known.is at c.in-Ok.ensures.codes) (rw c.expression.ensures.keeps.site at c.first_of_two.ensures.codes)) (λ k. ap (λ (at : ℕ). and_then (expression k (with_types c.args.self.now.withs.now) (expr_view e)) (λ x. first_of_two k c.args.f at x)) (sym (at_seen e)))
-
-pub second_argument-expression-requires : goal.second_argument-expression-requires
-second_argument-expression-requires g t c κs within = (search rules, (within, (c.requires.suits, (c.requires.withs, (c.requires.read)))))
-
-pub second_argument-returns-in-DontKnowYet-clause-codes : goal.second_argument-returns-in-DontKnowYet-clause-codes
-second_argument-returns-in-DontKnowYet-clause-codes g t c = unknown (rw c.in-DontKnowYet.is at c.in-Ok.ensures.codes)
-
-pub second_argument-returns-in-Err-clause-codes : goal.second_argument-returns-in-Err-clause-codes
-second_argument-returns-in-Err-clause-codes g t c = unmade c.in-Err.ensures.codes _
-
-pub second_argument-of_two_arguments-requires-clause-suits : goal.second_argument-of_two_arguments-requires-clause-suits
-second_argument-of_two_arguments-requires-clause-suits g t c = (rw c.expression.ensures.keeps.site (suits_after (rw c.in-Known.is at c.in-Ok.ensures.codes) c.requires.suits))
-
-pub second_argument-of_two_arguments-requires-clause-x : goal.second_argument-of_two_arguments-requires-clause-x
-second_argument-of_two_arguments-requires-clause-x g t c = coded_after (rw c.in-Known.is at c.in-Ok.ensures.codes) c.args.first.coded c.requires.first
-
-pub second_argument-of_two_arguments-requires-clause-y : goal.second_argument-of_two_arguments-requires-clause-y
-second_argument-of_two_arguments-requires-clause-y g t c = stands_after (rw c.in-Known.is at c.in-Ok.ensures.codes)
-
-pub second_argument-returns-clause-codes : goal.second_argument-returns-clause-codes
-second_argument-returns-clause-codes g t c =
-    let one = (rw c.in-Known.is at c.in-Ok.ensures.codes) in
-    let e = c.args.e.now in
-    let first = coded_in c.args.self.now.fragments.now.nodes.items c.args.first.coded in
-    let y = coded_in c.expression.new.self.fragments.now.nodes.items c.in-Known.value in
-    described c.of_two_arguments.result (coding_after (λ k. expression k (with_types c.args.self.now.withs.now) (expr_view e)) (λ y k. of_two_arguments k c.args.f c.args.first.at first e.at y) c.of_two_arguments.result one (described c.of_two_arguments.result (rw c.expression.ensures.keeps.site at c.of_two_arguments.ensures.codes) (λ k. ap (λ (x : code.Coded). of_two_arguments k c.args.f c.args.first.at x e.at y) (coded_later one.grows c.args.first.coded c.requires.first))))
-    (λ k. ap (λ (at : ℕ). and_then (expression k (with_types c.args.self.now.withs.now) (expr_view e)) (λ y. of_two_arguments k c.args.f c.args.first.at first at y)) (sym (at_seen e)))
-
 pub standard-expression-requires : goal.standard-expression-requires
 standard-expression-requires g t c κs within =
     ((let small = item_small size-Expr c.args.args.now 0 c.e-item.result (omega (arith, c.in-len1.len_at_least)) c.e-item.is in omega (arith, small, c.decreases)), (within, (c.requires.suits, (c.requires.withs, (read_expr c.args.self.now.site.now.texts.now.names expr_view c.args.args.now 0 c.e-item.result (omega (arith, c.in-len1.len_at_least)) c.e-item.is c.requires.read)))))
@@ -566,26 +609,67 @@ standard-returns-in-Known-clause-codes g t c =
     let one : length c.args.args.now ≡ 1 = omega (arith, c.in-len1.len_at_least, c.in-len1.len_below) in
     described c.of_one_argument.result (coding_after (λ k. expression k (with_types c.args.self.now.withs.now) (expr_view e)) (λ x k. of_one_argument k c.args.f e.at x) c.of_one_argument.result (rw c.in-Known.is at c.in-Ok.ensures.codes) (rw c.expression.ensures.keeps.site at c.of_one_argument.ensures.codes)) (λ k. ap (λ (at : ℕ). and_then (expression k (with_types c.args.self.now.withs.now) (expr_view e)) (λ x. of_one_argument k c.args.f at x)) (sym (at_seen e)) ∙ one_argument_given k (with_types c.args.self.now.withs.now) c.args.f expr_view c.args.args.now e one c.e-item.is)
 
-pub standard-first_argument-requires : goal.standard-first_argument-requires
-standard-first_argument-requires g t c κs within =
+pub standard-expression-requires-in-len2-up : goal.standard-expression-requires-in-len2-up
+standard-expression-requires-in-len2-up g t c κs within =
     ((let small = item_small size-Expr c.args.args.now 0 c.e-item-2.result (omega (arith, c.in-len2-up.len_at_least)) c.e-item-2.is in omega (arith, small, c.decreases)), (within, (c.requires.suits, (c.requires.withs, (read_expr c.args.self.now.site.now.texts.now.names expr_view c.args.args.now 0 c.e-item-2.result (omega (arith, c.in-len2-up.len_at_least)) c.e-item-2.is c.requires.read)))))
 
 pub standard-returns-in-DontKnowYet-asked-clause-codes : goal.standard-returns-in-DontKnowYet-asked-clause-codes
-standard-returns-in-DontKnowYet-asked-clause-codes g t c = unknown (rw c.in-DontKnowYet-asked.is at c.in-Ok-first_argument.ensures.codes)
+standard-returns-in-DontKnowYet-asked-clause-codes g t c = unknown (rw c.in-DontKnowYet-asked.is at c.in-Ok-expression.ensures.codes)
 
-pub standard-returns-in-Err-first_argument-clause-codes : goal.standard-returns-in-Err-first_argument-clause-codes
-standard-returns-in-Err-first_argument-clause-codes g t c = unmade c.in-Err-first_argument.ensures.codes _
+pub standard-returns-in-Err-expression-clause-codes : goal.standard-returns-in-Err-expression-clause-codes
+standard-returns-in-Err-expression-clause-codes g t c = unmade c.in-Err-expression.ensures.codes _
 
-pub standard-second_argument-requires : goal.standard-second_argument-requires
-standard-second_argument-requires g t c κs within =
-    ((let small = item_small size-Expr c.args.args.now 1 c.other-item.result (omega (arith, c.in-len2-up.len_at_least)) c.other-item.is in omega (arith, small, c.decreases)), (within, ((rw c.first_argument.ensures.keeps.site (suits_after (rw c.in-Known-asked.is at c.in-Ok-first_argument.ensures.codes) c.requires.suits)), ((rw c.first_argument.ensures.keeps.withs (open_after (rw c.in-Known-asked.is at c.in-Ok-first_argument.ensures.codes) c.args.self.now.withs.now c.requires.withs)), (stands_after (rw c.in-Known-asked.is at c.in-Ok-first_argument.ensures.codes), (rw c.first_argument.ensures.keeps.site (read_expr c.args.self.now.site.now.texts.now.names expr_view c.args.args.now 1 c.other-item.result (omega (arith, c.in-len2-up.len_at_least)) c.other-item.is c.requires.read)))))))
+pub standard-first_of_two-requires-clause-suits : goal.standard-first_of_two-requires-clause-suits
+standard-first_of_two-requires-clause-suits g t c = (rw c.expression-in-len2-up.ensures.keeps.site (suits_after (rw c.in-Known-asked.is at c.in-Ok-expression.ensures.codes) c.requires.suits))
 
-pub standard-returns-in-Known-asked-clause-codes : goal.standard-returns-in-Known-asked-clause-codes
-standard-returns-in-Known-asked-clause-codes g t c =
+pub standard-first_of_two-requires-clause-x : goal.standard-first_of_two-requires-clause-x
+standard-first_of_two-requires-clause-x g t c = stands_after (rw c.in-Known-asked.is at c.in-Ok-expression.ensures.codes)
+
+pub standard-returns-in-DontKnowYet-asked-2-clause-codes : goal.standard-returns-in-DontKnowYet-asked-2-clause-codes
+standard-returns-in-DontKnowYet-asked-2-clause-codes g t c = unknown_after (rw c.in-Known-asked.is at c.in-Ok-expression.ensures.codes) (rw c.expression-in-len2-up.ensures.keeps.site at (rw c.in-DontKnowYet-asked-2.is at c.in-Ok-first_of_two.ensures.codes))
+
+pub standard-returns-in-Err-first_of_two-clause-codes : goal.standard-returns-in-Err-first_of_two-clause-codes
+standard-returns-in-Err-first_of_two-clause-codes g t c = unmade_after (rw c.in-Known-asked.is at c.in-Ok-expression.ensures.codes) (rw c.expression-in-len2-up.ensures.keeps.site at c.in-Err-first_of_two.ensures.codes) _
+
+pub standard-expression-requires-in-len2-up-2 : goal.standard-expression-requires-in-len2-up-2
+standard-expression-requires-in-len2-up-2 g t c κs within =
+    ((let small = item_small size-Expr c.args.args.now 1 c.other-item.result (omega (arith, c.in-len2-up.len_at_least)) c.other-item.is in omega (arith, small, c.decreases)), (within, ((rw c.first_of_two.ensures.keeps.site (suits_after (rw c.in-Known-asked-2.is at c.in-Ok-first_of_two.ensures.codes) (rw c.expression-in-len2-up.ensures.keeps.site (suits_after (rw c.in-Known-asked.is at c.in-Ok-expression.ensures.codes) c.requires.suits)))), ((rw c.first_of_two.ensures.keeps.withs (open_after (rw c.in-Known-asked-2.is at c.in-Ok-first_of_two.ensures.codes) c.expression-in-len2-up.new.self.withs.now (rw c.expression-in-len2-up.ensures.keeps.withs (open_after (rw c.in-Known-asked.is at c.in-Ok-expression.ensures.codes) c.args.self.now.withs.now c.requires.withs)))), (rw c.first_of_two.ensures.keeps.site (rw c.expression-in-len2-up.ensures.keeps.site (read_expr c.args.self.now.site.now.texts.now.names expr_view c.args.args.now 1 c.other-item.result (omega (arith, c.in-len2-up.len_at_least)) c.other-item.is c.requires.read)))))))
+
+pub standard-returns-in-DontKnowYet-asked-3-clause-codes : goal.standard-returns-in-DontKnowYet-asked-3-clause-codes
+standard-returns-in-DontKnowYet-asked-3-clause-codes g t c =
+    then_unknown (followed_by (by_coding (rw c.in-Known-asked.is at c.in-Ok-expression.ensures.codes)) (by_coding (rw c.expression-in-len2-up.ensures.keeps.site at (rw c.in-Known-asked-2.is at c.in-Ok-first_of_two.ensures.codes)))) (rw c.expression-in-len2-up.ensures.keeps.withs at (rw c.expression-in-len2-up.ensures.keeps.site at (rw c.first_of_two.ensures.keeps.withs at (rw c.first_of_two.ensures.keeps.site at (rw c.in-DontKnowYet-asked-3.is at c.in-Ok-expression-2.ensures.codes)))))
+
+pub standard-returns-in-Err-expression-2-clause-codes : goal.standard-returns-in-Err-expression-2-clause-codes
+standard-returns-in-Err-expression-2-clause-codes g t c =
+    then_wanted (followed_by (by_coding (rw c.in-Known-asked.is at c.in-Ok-expression.ensures.codes)) (by_coding (rw c.expression-in-len2-up.ensures.keeps.site at (rw c.in-Known-asked-2.is at c.in-Ok-first_of_two.ensures.codes)))) (rw c.expression-in-len2-up.ensures.keeps.withs at (rw c.expression-in-len2-up.ensures.keeps.site at (rw c.first_of_two.ensures.keeps.withs at (rw c.first_of_two.ensures.keeps.site at c.in-Err-expression-2.ensures.codes)))) _
+
+pub standard-of_two_arguments-requires-clause-suits : goal.standard-of_two_arguments-requires-clause-suits
+standard-of_two_arguments-requires-clause-suits g t c = rw c.expression-in-len2-up-2.ensures.keeps.site (suits_after (rw c.in-Known-asked-3.is at c.in-Ok-expression-2.ensures.codes) (rw c.first_of_two.ensures.keeps.site (suits_after (rw c.in-Known-asked-2.is at c.in-Ok-first_of_two.ensures.codes) (rw c.expression-in-len2-up.ensures.keeps.site (suits_after (rw c.in-Known-asked.is at c.in-Ok-expression.ensures.codes) c.requires.suits)))))
+
+pub standard-of_two_arguments-requires-clause-x : goal.standard-of_two_arguments-requires-clause-x
+standard-of_two_arguments-requires-clause-x g t c = coded_after (rw c.in-Known-asked-3.is at c.in-Ok-expression-2.ensures.codes) c.in-Known-asked-2.value (stands_after (rw c.in-Known-asked-2.is at c.in-Ok-first_of_two.ensures.codes))
+
+pub standard-of_two_arguments-requires-clause-y : goal.standard-of_two_arguments-requires-clause-y
+standard-of_two_arguments-requires-clause-y g t c = stands_after (rw c.in-Known-asked-3.is at c.in-Ok-expression-2.ensures.codes)
+
+pub standard-returns-in-Known-asked-3-clause-codes : goal.standard-returns-in-Known-asked-3-clause-codes
+standard-returns-in-Known-asked-3-clause-codes g t c =
     let e = c.e-item-2.result in
     let d = c.other-item.result in
-    described c.second_argument.result (coding_after (λ k. first_argument k (with_types c.args.self.now.withs.now) c.args.f (expr_view e)) (λ v k. second_argument k (with_types c.args.self.now.withs.now) c.args.f e.at v (expr_view d)) c.second_argument.result (rw c.in-Known-asked.is at c.in-Ok-first_argument.ensures.codes) (rw c.first_argument.ensures.keeps.withs at (rw c.first_argument.ensures.keeps.site at c.second_argument.ensures.codes)))
-    (λ k. ap (λ (at : ℕ). and_then (first_argument k (with_types c.args.self.now.withs.now) c.args.f (expr_view e)) (λ v. second_argument k (with_types c.args.self.now.withs.now) c.args.f at v (expr_view d))) (sym (at_seen e)) ∙ two_arguments_given k (with_types c.args.self.now.withs.now) c.args.f expr_view c.args.args.now e d (omega (arith, c.in-len2-up.len_at_least)) c.e-item-2.is c.other-item.is)
+    let f = c.args.f in
+    let r = c.of_two_arguments.result in
+    let two = (rw c.expression-in-len2-up.ensures.keeps.site at (rw c.in-Known-asked-2.is at c.in-Ok-first_of_two.ensures.codes)) in
+    let three = (rw c.expression-in-len2-up.ensures.keeps.withs at (rw c.expression-in-len2-up.ensures.keeps.site at (rw c.first_of_two.ensures.keeps.withs at (rw c.first_of_two.ensures.keeps.site at (rw c.in-Known-asked-3.is at c.in-Ok-expression-2.ensures.codes))))) in
+    let v = coded_in c.first_of_two.new.self.fragments.now.nodes.items c.in-Known-asked-2.value in
+    let y = coded_in c.expression-in-len2-up-2.new.self.fragments.now.nodes.items c.in-Known-asked-3.value in
+    described r (coding_after (λ k. expression k (with_types c.args.self.now.withs.now) (expr_view e)) (λ x k. and_then (first_of_two k f e.at x) (λ v. and_then (expression k (with_types c.args.self.now.withs.now) (expr_view d)) (λ y. of_two_arguments k f e.at v d.at y))) r (rw c.in-Known-asked.is at c.in-Ok-expression.ensures.codes)
+    (coding_after (λ k. first_of_two k f e.at (coded_in c.expression-in-len2-up.new.self.fragments.now.nodes.items c.in-Known-asked.value)) (λ v k. and_then (expression k (with_types c.args.self.now.withs.now) (expr_view d)) (λ y. of_two_arguments k f e.at v d.at y)) r two
+    (coding_after (λ k. expression k (with_types c.args.self.now.withs.now) (expr_view d)) (λ y k. of_two_arguments k f e.at v d.at y) r three
+    (described r (rw c.expression-in-len2-up.ensures.keeps.site at (rw c.first_of_two.ensures.keeps.site at (rw c.expression-in-len2-up-2.ensures.keeps.site at c.of_two_arguments.ensures.codes))) (λ k. ap (λ (x : code.Coded). of_two_arguments k f e.at x d.at y) (coded_later three.grows c.in-Known-asked-2.value (stands_after two)))))))
+    (λ k. ap (λ (at : ℕ). and_then (expression k (with_types c.args.self.now.withs.now) (expr_view e)) (λ x. and_then (first_of_two k f e.at x) (λ v. and_then (expression k (with_types c.args.self.now.withs.now) (expr_view d)) (λ y. of_two_arguments k f e.at v at y)))) (sym (at_seen d))
+    ∙ ap (λ (at : ℕ). and_then (expression k (with_types c.args.self.now.withs.now) (expr_view e)) (λ x. and_then (first_of_two k f at x) (λ v. and_then (expression k (with_types c.args.self.now.withs.now) (expr_view d)) (λ y. of_two_arguments k f at v (expr_at (expr_view d)) y)))) (sym (at_seen e))
+    ∙ sym (and_then_assoc (expression k (with_types c.args.self.now.withs.now) (expr_view e)) (λ o. first_of_two k f (expr_at (expr_view e)) o) (λ v. second_argument k (with_types c.args.self.now.withs.now) f (expr_at (expr_view e)) v (expr_view d)))
+    ∙ two_arguments_given k (with_types c.args.self.now.withs.now) f expr_view c.args.args.now e d (omega (arith, c.in-len2-up.len_at_least)) c.e-item-2.is c.other-item.is)
 
 pub looked_at-loop-e-init : goal.looked_at-loop-e-init
 looked_at-loop-e-init g t c = (
@@ -646,90 +730,6 @@ passed-returns-clause-codes g t c =
     (value_alone (g.S.Scopes.state c.loop-e.self.scopes.now) c.loop-e.self.notes.now c.loop-e.self.fragments.now.nodes.items c.args.self.now.site.now c.all_passed.result IsArgument argument_in (λ k. all_passed (map parameter_view c.loop-e.left.now) (argument_in c.loop-e.self.fragments.now.nodes.items c.loop-e.code))
     (c.all_passed.ensures.there (g.S.Scopes.state c.loop-e.self.scopes.now).frame c.loop-e.self.fragments.now.nodes.items (stands_after c.loop-e.invariant.1).1) (λ k. c.all_passed.ensures.told c.loop-e.self.fragments.now.nodes.items))) (λ k. passed_whole k (with_types c.args.self.now.withs.now) expr_view (map parameter_view c.args.params.now) c.args.args.now)
 
-pub procedure-passed-requires : goal.procedure-passed-requires
-procedure-passed-requires g t c κs within = (search rules, (within, (c.requires.suits, (c.requires.withs, (rw c.deref.ensures.value c.requires.callee.params, (c.requires.read))))))
-
-pub procedure-returns-in-DontKnowYet-clause-codes : goal.procedure-returns-in-DontKnowYet-clause-codes
-procedure-returns-in-DontKnowYet-clause-codes g t c = unknown (rw c.in-DontKnowYet.is at c.in-Ok.ensures.codes)
-
-pub procedure-returns-in-Err-clause-codes : goal.procedure-returns-in-Err-clause-codes
-procedure-returns-in-Err-clause-codes g t c = unmade c.in-Err.ensures.codes _
-
-pub procedure-call_coded-requires-clause-suits : goal.procedure-call_coded-requires-clause-suits
-procedure-call_coded-requires-clause-suits g t c = (rw c.passed.ensures.keeps.site (suits_after (rw c.in-Known.is at c.in-Ok.ensures.codes) c.requires.suits))
-
-pub procedure-call_coded-requires-clause-callee : goal.procedure-call_coded-requires-clause-callee
-procedure-call_coded-requires-clause-callee g t c = callee_after (rw c.in-Known.is at c.in-Ok.ensures.codes) c.args.callee.now c.requires.callee
-
-pub procedure-call_coded-requires-clause-args : goal.procedure-call_coded-requires-clause-args
-procedure-call_coded-requires-clause-args g t c = stands_after (rw c.in-Known.is at c.in-Ok.ensures.codes)
-
-pub procedure-returns-clause-codes : goal.procedure-returns-clause-codes
-procedure-returns-clause-codes g t c =
-    let one = (rw c.deref.ensures.value at (rw c.in-Known.is at c.in-Ok.ensures.codes)) in
-    let p = c.args.callee.now in
-    let ms = c.passed.new.self.fragments.now.nodes.items in
-    coding_after (λ k. passed k (with_types c.args.self.now.withs.now) (map parameter_view p.params.items) (exprs (map expr_view c.args.args.now))) (λ codes k. gives (call_coded k.scene (map parameter_view p.params.items) (part c.args.self.now.fragments.now.nodes.items p.before) p.instr p.result p.more codes)) c.call_coded.result one
-    (described c.call_coded.result ((rw c.passed.ensures.keeps.site at c.call_coded.ensures.codes)) (λ k. ap (λ (before : Part). gives (call_coded k.scene (map parameter_view p.params.items) before p.instr p.result p.more (argument_in ms c.in-Known.value))) (part_later one.grows p.before c.requires.callee.before)))
-
-pub lacking-passed-requires : goal.lacking-passed-requires
-lacking-passed-requires g t c κs within = (search rules, (within, (c.requires.suits, (c.requires.withs, (c.requires.params, (c.requires.read))))))
-
-pub lacking-returns-in-DontKnowYet-clause-codes : goal.lacking-returns-in-DontKnowYet-clause-codes
-lacking-returns-in-DontKnowYet-clause-codes g t c = unknown (rw c.in-DontKnowYet.is at c.in-Ok.ensures.codes)
-
-pub lacking-returns-in-Err-clause-codes : goal.lacking-returns-in-Err-clause-codes
-lacking-returns-in-Err-clause-codes g t c = unmade c.in-Err.ensures.codes _
-
-pub lacking-returns-clause-codes : goal.lacking-returns-clause-codes
-lacking-returns-clause-codes g t c =
-    let ms = c.passed.new.self.fragments.now.nodes.items in
-    let state = g.S.Scopes.state c.passed.new.self.scopes.now in
-    coding_after (λ k. passed k (with_types c.args.self.now.withs.now) (map parameter_view c.args.params.now) (exprs (map expr_view c.args.args.now))) (λ codes k. gives in_error) (Ok (Known c.in_error.result)) (rw c.in-Known.is at c.in-Ok.ensures.codes) (value_alone state c.passed.new.self.notes.now ms c.args.self.now.site.now c.in_error.result IsCoded coded_in (λ k. in_error) (c.in_error.ensures.there state.frame ms) (λ k. c.in_error.ensures.told ms))
-
-pub called_as-standard-requires : goal.called_as-standard-requires
-called_as-standard-requires g t c κs within = (search rules, (within, (c.requires.suits, (c.requires.withs, (c.requires.read)))))
-
-pub called_as-procedure-requires : goal.called_as-procedure-requires
-called_as-procedure-requires g t c κs within = (search rules, (within, (c.requires.suits, (c.requires.withs, (rw c.in-Procedure.is at c.requires.what, (c.requires.read))))))
-
-pub called_as-looked_at-requires : goal.called_as-looked_at-requires
-called_as-looked_at-requires g t c κs within = (search rules, (within, (c.requires.suits, (c.requires.withs, (c.requires.read)))))
-
-pub called_as-returns-in-Standard-clause-codes : goal.called_as-returns-in-Standard-clause-codes
-called_as-returns-in-Standard-clause-codes g t c =
-    described c.standard.result c.standard.ensures.codes (λ k. ap (λ (w : Callable). called_as k (with_types c.args.self.now.withs.now) (exprs (map expr_view c.args.args.now)) (called_in c.args.self.now.fragments.now.nodes.items w)) (sym c.in-Standard.is))
-
-pub called_as-returns-in-Procedure-clause-codes : goal.called_as-returns-in-Procedure-clause-codes
-called_as-returns-in-Procedure-clause-codes g t c =
-    described c.procedure.result c.procedure.ensures.codes (λ k. ap (λ (w : Callable). called_as k (with_types c.args.self.now.withs.now) (exprs (map expr_view c.args.args.now)) (called_in c.args.self.now.fragments.now.nodes.items w)) (sym c.in-Procedure.is))
-
-pub called_as-lacking-requires : goal.called_as-lacking-requires
-called_as-lacking-requires g t c κs within = (search rules, (within, (c.requires.suits, (c.requires.withs, (rw c.deref.ensures.value (rw c.in-Lacking.is at c.requires.what), (c.requires.read))))))
-
-pub called_as-returns-in-Lacking-clause-codes : goal.called_as-returns-in-Lacking-clause-codes
-called_as-returns-in-Lacking-clause-codes g t c =
-    described c.lacking.result (rw c.deref.ensures.value at c.lacking.ensures.codes) (λ k. ap (λ (w : Callable). called_as k (with_types c.args.self.now.withs.now) (exprs (map expr_view c.args.args.now)) (called_in c.args.self.now.fragments.now.nodes.items w)) (sym c.in-Lacking.is))
-
-pub called_as-returns-in-Nothing-clause-codes : goal.called_as-returns-in-Nothing-clause-codes
-called_as-returns-in-Nothing-clause-codes g t c =
-    described c.looked_at.result c.looked_at.ensures.codes (λ k. ap (λ (w : Callable). called_as k (with_types c.args.self.now.withs.now) (exprs (map expr_view c.args.args.now)) (called_in c.args.self.now.fragments.now.nodes.items w)) (sym c.in-Nothing.is))
-
-pub called_with-returns-in-DontKnowYet-clause-codes : goal.called_with-returns-in-DontKnowYet-clause-codes
-called_with-returns-in-DontKnowYet-clause-codes g t c = unknown (rw c.in-DontKnowYet.is at c.in-Ok.ensures.codes)
-
-pub called_with-returns-in-Err-clause-codes : goal.called_with-returns-in-Err-clause-codes
-called_with-returns-in-Err-clause-codes g t c = unmade c.in-Err.ensures.codes _
-
-pub called_with-called_as-requires : goal.called_with-called_as-requires
-called_with-called_as-requires g t c κs within =
-    (search rules, (within, ((rw c.called.ensures.keeps.site (suits_after (rw c.in-Known.is at c.in-Ok.ensures.codes) c.requires.suits)), ((rw c.called.ensures.keeps.withs (open_after (rw c.in-Known.is at c.in-Ok.ensures.codes) c.args.self.now.withs.now c.requires.withs)), (stands_after (rw c.in-Known.is at c.in-Ok.ensures.codes), (rw c.called.ensures.keeps.site (c.requires.read)))))))
-
-pub called_with-returns-clause-codes : goal.called_with-returns-clause-codes
-called_with-returns-clause-codes g t c =
-    let to = coded_in c.args.self.now.fragments.now.nodes.items c.args.to.coded in
-    described c.called_as.result (coding_after (λ k. called k c.args.is_wanted c.args.to.at (length c.args.args.now) to) (λ what k. called_as k (with_types c.args.self.now.withs.now) (exprs (map expr_view c.args.args.now)) what) c.called_as.result (rw c.in-Known.is at c.in-Ok.ensures.codes) (rw c.called.ensures.keeps.withs at (rw c.called.ensures.keeps.site at c.called_as.ensures.codes))) (λ k. ap (λ (n : ℕ). and_then (called k c.args.is_wanted c.args.to.at n to) (λ what. called_as k (with_types c.args.self.now.withs.now) (exprs (map expr_view c.args.args.now)) what)) (count_given expr_view c.args.args.now))
-
 pub expression-designated-requires-in-Call : goal.expression-designated-requires-in-Call
 expression-designated-requires-in-Call g t c κs within =
     ((let small = called_smaller c.args.e.now c.in-Call.to c.in-Call.args c.in-Call.is in omega (arith, small, c.decreases)), (within, (c.requires.suits, (c.requires.withs, ((form_read c.args.self.now.site.now.texts.now.names c.args.e.now _ _ c.in-Call.is (call_seen c.in-Call.to c.in-Call.args) c.requires.read).0)))))
@@ -788,9 +788,8 @@ next_passed-returns-in-Known-asked-clause-codes g t c =
     let p = c.in-Some.p.now in
     let code = argument_in c.args.self.now.fragments.now.nodes.items c.args.code in
     let x = coded_in c.expression.new.self.fragments.now.nodes.items c.in-Known.value in
-    let more = argument_in c.argument.new.self.fragments.now.nodes.items c.in-Known-asked.value in
     described c.joined.result (coding_after (λ k. expression k (with_types c.args.self.now.withs.now) (expr_view e)) (λ x k. and_then (argument k (parameter_view p) e.at x) (λ a. gives (after_argument code a))) c.joined.result one (coding_after (λ k. argument k (parameter_view p) e.at x) (λ a k. gives (after_argument code a)) c.joined.result two
-    (described c.joined.result (c.joined.ensures (g.S.Scopes.state c.argument.new.self.scopes.now) c.argument.new.self.notes.now c.args.self.now.site.now) (λ k. ap (λ (o : Option Part). gives (after_argument o more)) (argument_later (Grows-trans one.grows two.grows) (g.S.Scopes.state c.args.self.now.scopes.now).frame c.args.code c.requires.code)))))
+    (described c.joined.result (c.joined.ensures (g.S.Scopes.state c.argument.new.self.scopes.now) c.argument.new.self.notes.now c.args.self.now.site.now) (λ k. ap (λ (o : Option Part). gives (after_argument o (argument_in c.argument.new.self.fragments.now.nodes.items c.in-Known-asked.value))) (argument_later (Grows-trans one.grows two.grows) (g.S.Scopes.state c.args.self.now.scopes.now).frame c.args.code c.requires.code)))))
     (λ k. ap (λ (at : ℕ). and_then (expression k (with_types c.args.self.now.withs.now) (expr_view e)) (λ x. and_then (argument k (parameter_view p) at x) (λ a. gives (after_argument code a)))) (sym (at_seen e)) ∙ parameter_given k (with_types c.args.self.now.withs.now) c.args.params.now p code (expr_view e) (rw c.in-Some.is at c.first.ensures.value))
 
 pub expression-overflow_cast-value : goal.expression-overflow_cast-value

@@ -6,7 +6,7 @@ use Rattle.const_eval.proofs.Folding.{folded}
 use Rattle.expr_sem.specs.ArgumentCodes.{parameter_view}
 use Rattle.expr_sem.specs.Coded.{in_error}
 use Rattle.expr_sem.specs.Coders.{Codes, Keeps, nodes_of}
-use Rattle.expr_sem.specs.Codings.{IsCoded, coded_in, with_types}
+use Rattle.expr_sem.specs.Codings.{Coding, IsCoded, coded_in, with_types}
 use Rattle.expr_sem.specs.ExpressionParts.{index}
 use Rattle.expr_sem.specs.Expressions.{element, expression, followed, selector}
 use Rattle.expr_sem.specs.Parts.{none}
@@ -28,11 +28,11 @@ invariant-elements-loop-label g l =
     × Codes g.S.Scopes.state l.fn.self l.self (Ok (Known l.made)) AreElements elements_in
     (λ c. folded (λ o i. element c (with_types l.fn.self.withs.now) l.base o (label_view i)) (elements_in (nodes_of l.fn.self) l.fn.es) (take l.label-index l.items))
 
-abbrev pub invariant-selected-loop-selector : goal.invariant-selected-loop-selector
-invariant-selected-loop-selector g l =
+abbrev pub invariant-designated-loop-selector : goal.invariant-designated-loop-selector
+invariant-designated-loop-selector g l =
     Keeps l.fn.self l.self
-    × Codes g.S.Scopes.state l.fn.self l.self (Ok (Known l.y)) IsCoded coded_in
-    (λ c. folded (λ o i. selector c (with_types l.fn.self.withs.now) l.first o (selector_view i)) (coded_in (nodes_of l.fn.self) l.fn.x) (take l.selector-index l.rest))
+    × Coding (g.S.Scopes.state l.initial.self.scopes.now) (g.S.Scopes.state l.self.scopes.now) l.initial.self.notes.now l.self.notes.now (nodes_of l.initial.self) (nodes_of l.self) l.fn.self.site.now (Ok (Known l.x)) IsCoded coded_in
+    (λ c. folded (λ o i. selector c (with_types l.fn.self.withs.now) l.of.first.at o (selector_view i)) (coded_in (nodes_of l.initial.self) l.initial.x) (take l.selector-index l.rest))
 
 abbrev pub invariant-indexed-loop-e : goal.invariant-indexed-loop-e
 invariant-indexed-loop-e g l =

@@ -11,10 +11,12 @@ use Rattle.expr_sem.specs.Values.{in_range}
 use Rattle.expr_sem.specs.declared.takings.Taking.{Taking}
 use Rattle.expr_sem.specs.declared.takings.Taking.TheVariants.{PassedOver, Refused, Taken}
 use Rattle.type_rules.specs.Sites.{context_of}
-use Rattle.expr_sem.proofs.Making.{after_question}
+use Rattle.expr_sem.proofs.Making.{after_question, question_waits}
 use Rattle.expr_sem.proofs.Operating.{value_alone}
 use Rattle.expr_sem.proofs.ValueCases.{taken_is}
 use Rattle.expr_sem.proofs.coder.Coder.assigned_to.Goals as goal
+use Rattle.const_eval.proofs.Later.{SuitsSite_read}
+use Rattle.type_rules.proofs.Later.{IsThere_read}
 
 pub returns-in-Known-PassedOver-clause-codes : goal.returns-in-Known-PassedOver-clause-codes
 returns-in-Known-PassedOver-clause-codes g c =
@@ -45,3 +47,21 @@ returns-in-Known-Taken-clause-codes g c =
     (λ made in_hand told. let k = context_of f made c.args.self.now.site.now in
     ap (λ (y : code.Coded). in_range k c.args.x.at c.args.to y) (c.taken-coded.ensures.told nodes)
     ∙ taken_is k c.args.to c.args.x.at (code_of c.args.refusal) (coded_in nodes c.args.x.coded) (Taken asked.operand) (sym asked.field-0-is ∙ asked.ensures.told made in_hand told))
+
+pub taking_of-requires-clause-suits : goal.taking_of-requires-clause-suits
+taking_of-requires-clause-suits g c = c.requires.suits
+
+pub taking_of-requires-clause-to : goal.taking_of-requires-clause-to
+taking_of-requires-clause-to g c = c.requires.to
+
+pub returns-in-DontKnowYet-clause-codes : goal.returns-in-DontKnowYet-clause-codes
+returns-in-DontKnowYet-clause-codes g c = question_waits _ _ c.in-DontKnowYet.ensures.reads c.in-DontKnowYet.ensures.waits
+
+pub in_range-requires-clause-suits : goal.in_range-requires-clause-suits
+in_range-requires-clause-suits g c = SuitsSite_read c.in-Known-Taken.ensures.reads c.requires.suits
+
+pub in_range-requires-clause-to : goal.in_range-requires-clause-to
+in_range-requires-clause-to g c = IsThere_read c.in-Known-Taken.ensures.reads c.requires.to
+
+pub taking_of-requires-clause-operand : goal.taking_of-requires-clause-operand
+taking_of-requires-clause-operand g c = c.requires.x.operand

@@ -12,9 +12,10 @@ use Rattle.expr_sem.specs.Coded.{characters as spec_characters}
 use Rattle.expr_sem.specs.Codings.{coded_in}
 use Rattle.expr_sem.specs.Values.{assigned_to as spec_assigned_to}
 use Rattle.expr_sem.proofs.ArgumentCases.{other_argument, passed}
-use Rattle.expr_sem.proofs.Following.{by_coding, by_question, followed_by, holds, still_around, still_suits, then_full, then_unknown, then_waits, then_wanted}
+use Rattle.expr_sem.proofs.Following.{by_coding, by_question, followed_by, holds, still_around, still_suits, then_failed, then_full, then_unknown, then_waits, then_wanted}
 use Rattle.expr_sem.proofs.Making.{fragment_told}
 use Rattle.expr_sem.proofs.Operating.{coding_after, described, unknown, unmade, value_alone}
+use Rattle.expr_sem.proofs.Sequencing.{Grows-refl, made_after}
 use Rattle.expr_sem.proofs.Walking.{stands_after}
 use Rattle.expr_sem.proofs.coder.Coder.by_value.Goals as goal
 
@@ -33,17 +34,21 @@ size_of-requires-clause-there g c = holds (by_coding c.in-Ok.ensures.codes) (λ 
 pub returns-in-DontKnowYet-size_of-clause-codes : goal.returns-in-DontKnowYet-size_of-clause-codes
 returns-in-DontKnowYet-size_of-clause-codes g c = then_waits (by_coding c.in-Ok.ensures.codes) c.size_of.ensures.reads c.in-DontKnowYet-size_of.ensures.waits
 
-pub copy_string-requires : goal.copy_string-requires
-copy_string-requires g c =
+pub characters-requires : goal.characters-requires
+characters-requires g c =
     let first = rw c.in-Known.is at c.in-Ok.ensures.codes in
     let named = rw c.in-StringConstant.is at first.there.operand in
     let same = c.requires.suits.texts in
     record { named = rw c.assigned_to.ensures.keeps.site (rw same named) }
 
+pub returns-in_err-bytes-in-StringConstant-clause-codes : goal.returns-in_err-bytes-in-StringConstant-clause-codes
+returns-in_err-bytes-in-StringConstant-clause-codes g c =
+    then_failed c.from_residual.result c.from_residual.ensures.0 (followed_by (by_coding c.in-Ok.ensures.codes) (by_question _ _ c.size_of.ensures.reads))
+
 pub returns-in_err-copy-in-StringConstant-clause-codes : goal.returns-in_err-copy-in-StringConstant-clause-codes
 returns-in_err-copy-in-StringConstant-clause-codes g c =
-    then_full c.from_residual.result c.from_residual.ensures.0 (followed_by (by_coding c.in-Ok.ensures.codes) (by_question _ _ c.size_of.ensures.reads))
-    (c.in_err-copy-in-StringConstant.ensures (source_of c.assigned_to.new.self.site.now.texts.now) refl)
+    then_full c.from_residual-in_err-copy-in-StringConstant.result c.from_residual-in_err-copy-in-StringConstant.ensures.0 (followed_by (by_coding c.in-Ok.ensures.codes) (by_question _ _ c.size_of.ensures.reads))
+    c.in_err-copy-in-StringConstant.ensures.made
 
 pub fitted_code-requires : goal.fitted_code-requires
 fitted_code-requires g c =
@@ -82,7 +87,8 @@ returns-in_ok-copy-in-StringConstant-clause-codes g c =
     let copy = c.in_ok-copy-in-StringConstant.copy in
     coding_after (λ k. spec_assigned_to k c.args.of c.args.x.at not_assignable (coded_in ns c.args.x.coded)) (λ v k. gives (spec_value_argument k c.args.of v)) (Ok (Known (Some copy))) first
     (described (Ok (Known (Some copy)))
-    (passed (fragment_told c.assigned_to.new.self.notes.now copy (λ k. string_copy (spec_size k.scene c.args.of) (spec_characters k.source c.in-StringConstant.name)) c.size_of.ensures.reads ((rw c.assigned_to.ensures.keeps.site at c.in_ok-copy-in-StringConstant.ensures) source refl)
+    (passed (fragment_told c.assigned_to.new.self.notes.now copy (λ k. string_copy (spec_size k.scene c.args.of) (spec_characters k.source c.in-StringConstant.name)) c.size_of.ensures.reads
+    (made_after (Ok copy) (Grows-refl ms) c.in_ok-copy-in-StringConstant.ensures.made (ap (string_copy c.in-Known-size_of.value) ((rw c.assigned_to.ensures.keeps.site at c.in_ok-bytes-in-StringConstant.ensures) source refl)))
     (λ made in_hand told. ap (λ size. string_copy size (spec_characters source c.in-StringConstant.name)) ((rw c.assigned_to.ensures.keeps.site at c.in-Known-size_of.ensures.told) made in_hand told))))
     (λ k. ap (λ o. gives (value_argument_by k c.args.of v o)) (sym c.in-StringConstant.is)))
 

@@ -7,6 +7,7 @@ use Rattle.expr_sem.proofs.Sequencing.{Grows-refl}
 use Rattle.expr_sem.specs.Elements.{of_array}
 use Rattle.expr_sem.proofs.Selecting.{no_array}
 use Rattle.expr_sem.proofs.coder.Coder.of_array.Goals as goal
+use Rattle.const_eval.proofs.Later.{SuitsSite_read}
 
 pub returns-in-DontKnowYet-clause-codes : goal.returns-in-DontKnowYet-clause-codes
 returns-in-DontKnowYet-clause-codes g c = question_waits _ _ c.stand.ensures.reads c.in-DontKnowYet.ensures.waits
@@ -41,3 +42,15 @@ open_element-requires-clause-index g c = stays_coded c.stand.ensures.reads.keeps
 
 pub open_element-requires-clause-x : goal.open_element-requires-clause-x
 open_element-requires-clause-x g c = stays_coded c.stand.ensures.reads.keeps.frame (Grows-refl _) c.args.x c.requires.x
+
+pub stand-requires-clause-suits : goal.stand-requires-clause-suits
+stand-requires-clause-suits g c = c.requires.suits.around
+
+pub stand-requires-clause-there : goal.stand-requires-clause-there
+stand-requires-clause-there g c = c.requires.of
+
+pub array_element-requires-clause-suits : goal.array_element-requires-clause-suits
+array_element-requires-clause-suits g c = SuitsSite_read c.in-Known.ensures.reads c.requires.suits
+
+pub open_element-requires-clause-suits : goal.open_element-requires-clause-suits
+open_element-requires-clause-suits g c = SuitsSite_read c.in-Known.ensures.reads c.requires.suits

@@ -31,17 +31,17 @@ returns-in-Dec-clause-codes g c =
 pub returns-in-Incl-clause-codes : goal.returns-in-Incl-clause-codes
 returns-in-Incl-clause-codes g c =
     let ns = c.args.self.now.fragments.now.nodes.items in
-    described c.included_element.result c.included_element.ensures.codes (λ k. ap (λ (f : Builtin). of_two_arguments k f c.args.x.at (coded_in ns c.args.x.coded) c.args.y.at (coded_in ns c.args.y.coded)) (sym c.in-Incl.is))
+    described c.included.result c.included.ensures.codes (λ k. ap (λ (f : Builtin). of_two_arguments k f c.args.x.at (coded_in ns c.args.x.coded) c.args.y.at (coded_in ns c.args.y.coded)) (sym c.in-Incl.is))
 
 pub returns-in-Excl-clause-codes : goal.returns-in-Excl-clause-codes
 returns-in-Excl-clause-codes g c =
     let ns = c.args.self.now.fragments.now.nodes.items in
-    described c.included_element-in-Excl.result c.included_element-in-Excl.ensures.codes (λ k. ap (λ (f : Builtin). of_two_arguments k f c.args.x.at (coded_in ns c.args.x.coded) c.args.y.at (coded_in ns c.args.y.coded)) (sym c.in-Excl.is))
+    described c.included-in-Excl.result c.included-in-Excl.ensures.codes (λ k. ap (λ (f : Builtin). of_two_arguments k f c.args.x.at (coded_in ns c.args.x.coded) c.args.y.at (coded_in ns c.args.y.coded)) (sym c.in-Excl.is))
 
 pub returns-in-Val-clause-codes : goal.returns-in-Val-clause-codes
 returns-in-Val-clause-codes g c =
     let ns = c.args.self.now.fragments.now.nodes.items in
-    described c.value_of_type.result c.value_of_type.ensures.codes (λ k. ap (λ (f : Builtin). of_two_arguments k f c.args.x.at (coded_in ns c.args.x.coded) c.args.y.at (coded_in ns c.args.y.coded)) (sym c.in-Val.is))
+    described c.on_value.result c.on_value.ensures.codes (λ k. ap (λ (f : Builtin). of_two_arguments k f c.args.x.at (coded_in ns c.args.x.coded) c.args.y.at (coded_in ns c.args.y.coded)) (sym c.in-Val.is))
 
 pub returns-in_default-clause-codes : goal.returns-in_default-clause-codes
 returns-in_default-clause-codes g c =

@@ -1,10 +1,12 @@
-use Rattle.std.proofs.Common.{◌≡◌, ◌∙◌, None, Ok, sym}
+use Rattle.std.proofs.Common.{◌≡◌, ◌∙◌, None, Ok, refl, sym}
 use Rattle.m2_base.specs.Statics.Types.{kind_of}
 use Rattle.m2_base.specs.declared.replies.Ask.TheVariants.{Known}
 use Rattle.type_rules.specs.Scenes.{scene_of}
 use Rattle.type_rules.specs.Sites.{context_of}
 use Rattle.type_rules.proofs.Compatibles.{told_later}
+use Rattle.type_rules.proofs.Later.{IsThere_read, Suits_read}
 use Rattle.type_rules.proofs.Reading.{Reads-trans, Waits_read}
+use Rattle.const_eval.proofs.Later.{SuitsSite_read}
 use Rattle.expr_sem.specs.ArgumentCodes.{parameter_view}
 use Rattle.expr_sem.specs.Codings.{coded_in}
 use Rattle.expr_sem.proofs.ArgumentCases.{mode_address, mode_bad, mode_broken, mode_open, mode_refused, mode_taken, mode_value, none_passed}
@@ -12,6 +14,55 @@ use Rattle.expr_sem.proofs.Following.{by_question, still_coded}
 use Rattle.expr_sem.proofs.Making.{after_question, question_waits}
 use Rattle.expr_sem.proofs.Operating.{described}
 use Rattle.expr_sem.proofs.coder.Coder.pass_argument.Goals as goal
+
+pub is_in_error-requires-clause-suits : goal.is_in_error-requires-clause-suits
+is_in_error-requires-clause-suits g c = c.requires.suits.around
+
+pub is_in_error-requires-clause-there : goal.is_in_error-requires-clause-there
+is_in_error-requires-clause-there g c = c.requires.p
+
+pub stand-requires-clause-suits : goal.stand-requires-clause-suits
+stand-requires-clause-suits g c = Suits_read c.is_in_error.ensures.reads c.requires.suits.around
+
+pub stand-requires-clause-there : goal.stand-requires-clause-there
+stand-requires-clause-there g c = IsThere_read c.is_in_error.ensures.reads c.requires.p
+
+pub returns-then-is_bad-clause-keeps : goal.returns-then-is_bad-clause-keeps
+returns-then-is_bad-clause-keeps g c = record { site = refl; withs = refl; scopes = refl; fragments = refl; notes = refl }
+
+pub returns-in-DontKnowYet-clause-keeps : goal.returns-in-DontKnowYet-clause-keeps
+returns-in-DontKnowYet-clause-keeps g c = record { site = refl; withs = refl; scopes = refl; fragments = refl; notes = refl }
+
+pub returns-then-value-clause-keeps : goal.returns-then-value-clause-keeps
+returns-then-value-clause-keeps g c = record { site = refl; withs = refl; scopes = refl; fragments = refl; notes = refl }
+
+pub returns-then-refuses-clause-keeps : goal.returns-then-refuses-clause-keeps
+returns-then-refuses-clause-keeps g c = record { site = refl; withs = refl; scopes = refl; fragments = refl; notes = refl }
+
+pub returns-in-DontKnowYet-stand-clause-keeps : goal.returns-in-DontKnowYet-stand-clause-keeps
+returns-in-DontKnowYet-stand-clause-keeps g c = record { site = refl; withs = refl; scopes = refl; fragments = refl; notes = refl }
+
+pub open_argument-requires-clause-suits : goal.open_argument-requires-clause-suits
+open_argument-requires-clause-suits g c = SuitsSite_read (Reads-trans c.is_in_error.ensures.reads c.stand.ensures.reads) c.requires.suits
+
+pub open_argument-requires-clause-x : goal.open_argument-requires-clause-x
+open_argument-requires-clause-x g c =
+    still_coded (by_question c.args.self.now.notes.now c.args.self.now.fragments.now.nodes.items (Reads-trans c.is_in_error.ensures.reads c.stand.ensures.reads)) c.args.x.coded c.requires.x
+
+pub by_value-requires-clause-suits : goal.by_value-requires-clause-suits
+by_value-requires-clause-suits g c = SuitsSite_read (Reads-trans c.is_in_error.ensures.reads c.stand.ensures.reads) c.requires.suits
+
+pub by_value-requires-clause-x : goal.by_value-requires-clause-x
+by_value-requires-clause-x g c =
+    still_coded (by_question c.args.self.now.notes.now c.args.self.now.fragments.now.nodes.items (Reads-trans c.is_in_error.ensures.reads c.stand.ensures.reads)) c.args.x.coded c.requires.x
+
+pub returns-in-OpenArray-clause-keeps : goal.returns-in-OpenArray-clause-keeps
+returns-in-OpenArray-clause-keeps g c =
+    let k = c.open_argument.ensures.keeps in record { site = k.site; withs = k.withs; scopes = k.scopes; fragments = k.fragments; notes = k.notes }
+
+pub returns-else-p-clause-keeps : goal.returns-else-p-clause-keeps
+returns-else-p-clause-keeps g c =
+    let k = c.by_value.ensures.keeps in record { site = k.site; withs = k.withs; scopes = k.scopes; fragments = k.fragments; notes = k.notes }
 
 pub returns-then-is_bad-clause-codes : goal.returns-then-is_bad-clause-codes
 returns-then-is_bad-clause-codes g c =

@@ -1,0 +1,83 @@
+use Rattle.std.proofs.Common.{◌≡◌, ◌∙◌, ◌<◌, ◌≤◌, ◌^◌, ℕ, Fits, None, ap, arith, length, refl, rules, subst, sym, w32}
+use Rattle.m2_base.specs.Rows as rows
+use Rattle.m2_base.specs.Rows.{IsBefore}
+use Rattle.m2_base.specs.States.{Frame}
+use Rattle.m2_base.specs.declared.rows.Place.{Place}
+use Rattle.m2_base.specs.declared.rows.RowMeaning.TheVariants.{Proc}
+use Rattle.type_rules.specs.Scenes.{IsThere}
+use Rattle.m2_base.specs.declared.rows.RowMeaning.{RowMeaning}
+use Rattle.type_rules.proofs.Searches.{can_search, found_in, absent_in, waits_at, Reads-searched, found_row}
+use Rattle.expr_sem.specs.ProcedureNames.{target_by, target_of_entry}
+use Rattle.expr_sem.proofs.OwnSearch.{own_is_known}
+use Rattle.expr_sem.proofs.procedure_names.own_target.Goals as goal
+
+no_procedure : (m : RowMeaning) → ((t : Place) (k s : ℕ) → m ≡ Proc t k s → ⊥) → None ≡ target_by m
+no_procedure (Proc t k s) h = absurd (h t k s refl)
+no_procedure m h = refl
+
+-- a place before one that can be asked for can be asked for
+before_there : (f : Frame) (p t : Place) → p.ordinal < 2 ^ 32 → IsThere f p → IsBefore t p → IsThere f t
+before_there f p t small there before =
+    let scope : t.scope ≤ p.scope = omega (arith, before, small) in
+    let within = there.scope in
+    record {
+      scope = omega (arith, scope, within);
+      entered = λ same open_yet.
+          let here : p.scope ≡ f.setting.fills = omega (arith, scope, within, same) in
+          let l = there.entered here open_yet in
+          omega (arith, before, same, here, l);
+    }
+
+pub search-requires : goal.search-requires
+search-requires g c =
+    can_search _ c.args.site.now.around.now _ _ c.requires.suits.around c.requires.suits.around.home c.requires.named
+
+pub read_row-requires : goal.read_row-requires
+read_row-requires g c =
+    let s : Fits w32 c.in-Found.field-0.scope = search rules in
+    let o : Fits w32 c.in-Found.field-0.ordinal = search rules in
+    let row = found_row _ _ _ _ _ _ _ _ c.requires.suits.around (c.requires.suits.around.home, tt) s.fits o.fits c.in-Found.ensures in
+    row.said.small
+
+pub returns-in-Proc-clause-reads : goal.returns-in-Proc-clause-reads
+returns-in-Proc-clause-reads g c = Reads-searched c.search.ensures
+
+pub returns-in-Proc-clause-told : goal.returns-in-Proc-clause-told
+returns-in-Proc-clause-told g c made in_hand told =
+    ap target_by (sym c.in-Proc.is ∙ c.read_row.ensures) ∙ ap target_of_entry (sym (found_in _ _ _ _ _ made c.requires.suits.around in_hand told _ _ _ c.requires.suits.around.home c.in-Found.ensures))
+
+pub returns-in-Proc-clause-there : goal.returns-in-Proc-clause-there
+returns-in-Proc-clause-there g c =
+    let s : Fits w32 c.in-Found.field-0.scope = search rules in
+    let o : Fits w32 c.in-Found.field-0.ordinal = search rules in
+    let row = found_row _ _ _ _ _ _ _ _ c.requires.suits.around (c.requires.suits.around.home, tt) s.fits o.fits c.in-Found.ensures in
+    let fits = subst (λ (m : RowMeaning). rows.Fits (length (g.S.Scopes.state c.args.scopes.now).frame.setting.texts.names) c.in-Found.field-0 m) (sym c.read_row.ensures ∙ c.in-Proc.is) row.said.fits in
+    before_there _ c.in-Found.field-0 c.in-Proc.of o.fits row.there fits.0
+
+pub returns-in_default-clause-reads : goal.returns-in_default-clause-reads
+returns-in_default-clause-reads g c = Reads-searched c.search.ensures
+
+pub returns-in_default-clause-told : goal.returns-in_default-clause-told
+returns-in_default-clause-told g c made in_hand told =
+    no_procedure c.read_row.result c.in_default.not-Proc ∙ ap target_by c.read_row.ensures ∙ ap target_of_entry (sym (found_in _ _ _ _ _ made c.requires.suits.around in_hand told _ _ _ c.requires.suits.around.home c.in-Found.ensures))
+
+pub returns-in-Absent-clause-reads : goal.returns-in-Absent-clause-reads
+returns-in-Absent-clause-reads g c = Reads-searched c.search.ensures
+
+pub returns-in-Absent-clause-told : goal.returns-in-Absent-clause-told
+returns-in-Absent-clause-told g c made in_hand told =
+    ap target_of_entry (sym (absent_in _ _ _ _ _ made c.requires.suits.around in_hand told _ c.requires.suits.around.home c.in-Absent.ensures))
+
+pub returns-in-DontKnowYet-clause-reads : goal.returns-in-DontKnowYet-clause-reads
+returns-in-DontKnowYet-clause-reads g c = Reads-searched c.search.ensures
+
+pub returns-in-DontKnowYet-clause-told : goal.returns-in-DontKnowYet-clause-told
+returns-in-DontKnowYet-clause-told g c made in_hand told =
+    absurd (own_is_known c.in-DontKnowYet.ensures (c.if-head-site.true ∙ c.requires.suits.around.fills) (c.requires.suits.done c.requires.statement))
+
+pub returns-in-DontKnowYet-2-clause-reads : goal.returns-in-DontKnowYet-2-clause-reads
+returns-in-DontKnowYet-2-clause-reads g c = Reads-searched c.search.ensures
+
+pub returns-in-DontKnowYet-2-clause-waits : goal.returns-in-DontKnowYet-2-clause-waits
+returns-in-DontKnowYet-2-clause-waits g c =
+    waits_at _ _ _ _ _ _ (c.requires.suits.around.home, tt) (λ e. c.if-head-site.false (e ∙ sym c.requires.suits.around.fills)) c.in-DontKnowYet.ensures
