@@ -1,6 +1,6 @@
 -- Statements that have no statements within them: what they make of their code, and what is made where memory was wanted or a
 -- statement is refused.
-use Rattle.std.proofs.Common.{◌≡◌, ◌∙◌, ◌++◌, ◌∷◌, [], ℕ, List, Result, Ok, Err, refl, subst, sym}
+use Rattle.std.proofs.Common.{◌≡◌, ◌∙◌, ◌++◌, ◌∷◌, [], ℕ, List, Result, Ok, Err, subst, sym}
 use Rattle.std.specs.Result.{IsErr}
 use Rattle.m2_base.specs.Gives.{Gives, and_then, gives}
 use Rattle.m2_base.specs.Lists.{IsPrefixOf}

@@ -55,16 +55,6 @@ fn append_copy(copy: &ParamCopy, piece: &mut Piece) -> Result<(), Memory>
     }
 }
 
-/// Appends the copies of parameters.
-fn append_copies(copies: &[ParamCopy], piece: &mut Piece) -> Result<(), Memory>
-    ensures { OnOk result (Appended piece.old piece.new [] (spec_prologue (map copy_view copies.now))) }
-{
-    for copy in copies {
-        append_copy(copy, piece)?;
-    }
-    Ok(())
-}
-
 /// A piece with what a body copies first. The variables of its block end before this cell.
 pub fn begun(
     alloc: Global,
@@ -76,7 +66,9 @@ pub fn begun(
         (λ piece. made_in piece ≡ spec_prologue (map copy_view copies.now) (spot_at (spec_cell kind cells) 0)) }
 {
     let mut piece = empty_piece(alloc, first_cell(kind, cells), 0);
-    append_copies(copies, &mut piece)?;
+    for copy in copies {
+        append_copy(copy, &mut piece)?;
+    }
     Ok(piece)
 }
 

@@ -33,18 +33,6 @@ use m2_base::{
 use std::alloc::Global;
 use std::marker::Model;
 
-/// Puts notes behind others.
-fn append_notes(notes: &mut Notes, more: &Notes) -> Result<(), Memory>
-    ensures diags { OnOk result (notes.new.diags.items ≡ notes.old.diags.items ++ more.now.diags.items) }
-    ensures answers { OnOk result (notes.new.answers.items ≡ notes.old.answers.items ++ more.now.answers.items) }
-    ensures before { IsPrefixOf notes.old.diags.items notes.new.diags.items }
-    ensures kept { OnErr result (notes.new.answers.items ≡ notes.old.answers.items) }
-{
-    notes.diags.extend_from_slice(&more.diags)?;
-    notes.answers.extend_from_slice(&more.answers)?;
-    Ok(())
-}
-
 /// Puts the notes of a statement behind others, and appends its code. Without memory the piece is as it was, and the
 /// notes have what they had, and perhaps more.
 fn append_noted(
@@ -64,7 +52,8 @@ fn append_noted(
     ensures before { IsPrefixOf notes.old.diags.items notes.new.diags.items }
     ensures first { IsPrefixOf notes.old.answers.items notes.new.answers.items }
 {
-    append_notes(notes, more)?;
+    notes.diags.extend_from_slice(&more.diags)?;
+    notes.answers.extend_from_slice(&more.answers)?;
     append_flow(flow, fragments, piece)
 }
 

@@ -1,24 +1,17 @@
 //! The selector of a CASE, and its end where no label holds.
-ghost use Rattle.std.specs.Prelude.{◌≡◌, List, if◌then◌else◌};
+ghost use Rattle.std.specs.Prelude.{List};
 ghost use Rattle.m2_base.specs.Gives.{gives};
-ghost use Rattle.m2_base.specs.Standard.{broken};
-ghost use Rattle.m2_base.specs.States.{State};
-ghost use Rattle.m2_base.specs.Statics.Contexts.{refuse};
-ghost use Rattle.m2_base.specs.Statics.Diagnostics.{wrong_operands};
-ghost use Rattle.m2_base.specs.Statics.Operations.{is_ordinal as spec_ordinal};
 ghost use Rattle.m2_base.specs.declared.notes.Notes.{Notes as NotesOf};
 ghost use Rattle.const_eval.specs.Sites.{IsOperand};
 ghost use Rattle.expr_sem.specs.Codings.{Coding, IsCoded, IsFragment, coded_in};
-ghost use Rattle.expr_sem.specs.Fragments.{IsMade, part};
+ghost use Rattle.expr_sem.specs.Fragments.{part};
 ghost use Rattle.expr_sem.specs.declared.fragments.Node.{Node};
-ghost use Rattle.type_rules.specs.Scenes.{IsThere};
 ghost use Rattle.type_rules.specs.Sites.{SuitsSite};
-ghost use Rattle.stmt_sem.specs.Cases.{no_case as spec_none, selector_type as spec_type, selector_value as spec_value};
+ghost use Rattle.stmt_sem.specs.Cases.{selector_type as spec_type, selector_value as spec_value};
 ghost use Rattle.stmt_sem.specs.Plain.{IsType, itself};
 
-use crate::refusals::refused_type;
+use crate::refusals::noted;
 use crate::tests::false_code;
-use code_form::Instr;
 use const_eval::{is_bad, is_ordinal};
 use expr_sem::{Coded, Fragment, Fragments, answered, value_code};
 use m2_base::{Ask, Diagnostic, Memory, Notes, Place, Scopes, Site};
@@ -29,25 +22,6 @@ use type_rules::{BROKEN, operand_type};
 pub struct Selected {
     pub value: Fragment,
     pub of: Place,
-}
-
-/// The type of an ordinal selector, or what is refused otherwise.
-fn type_or_refused(
-    site: &Site,
-    at: u32,
-    holds: bool,
-    of: Place,
-    notes: &mut Notes,
-) -> Result<Ask<Place>, Memory>
-    ensures { (state : State) (nodes : List Node) → IsThere state.frame of → IsThere state.frame broken
-        → Coding state state notes.old notes.new nodes nodes site.now result IsType itself
-        (λ c. if holds then gives of else refuse c at wrong_operands broken) }
-{
-    if holds {
-        Ok(Ask::Known(of))
-    } else {
-        refused_type(site, at, Diagnostic::WrongOperands, notes)
-    }
 }
 
 /// The type of the selector, which is ordinal. `at` is its first token.
@@ -67,7 +41,11 @@ pub fn selector_type<S: Scopes>(
         return Ok(Ask::Known(BROKEN));
     }
     let holds = asked!(is_ordinal(scopes, site, x.operand));
-    type_or_refused(site, at, holds, operand_type(&x.operand), notes)
+    if holds {
+        return Ok(Ask::Known(operand_type(&x.operand)));
+    }
+    noted(site, at, Diagnostic::WrongOperands, notes)?;
+    Ok(Ask::Known(BROKEN))
 }
 
 /// The selector's value; one in error stands as 0.
@@ -87,11 +65,4 @@ pub fn selector_value<S: Scopes>(
         return answered(false_code(fragments));
     }
     value_code(scopes, site, x, fragments)
-}
-
-/// No label holds, and there is no ELSE.
-pub fn no_case(fragments: &mut Fragments) -> Result<Fragment, Memory>
-    ensures { IsMade fragments.old.nodes.items fragments.new.nodes.items result spec_none }
-{
-    fragments.one(Instr::Trap(8))
 }

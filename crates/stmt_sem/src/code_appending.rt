@@ -4,12 +4,12 @@ ghost use Rattle.expr_sem.specs.Fragments.{AreSound};
 ghost use Rattle.expr_sem.specs.Parts.{plain};
 ghost use Rattle.expr_sem.specs.Pieces.{Appended, Begins};
 ghost use Rattle.expr_sem.specs.declared.pieces.With.{With as OpenWith};
-ghost use Rattle.code_form.specs.declared.instr.Instr.TheVariants.{JumpFalse, Load, Local, Push};
-ghost use Rattle.stmt_sem.specs.Cases.{label_code, labels_code, more_labels_code};
+ghost use Rattle.code_form.specs.declared.instr.Instr.TheVariants.{Load, Local, Push};
+ghost use Rattle.stmt_sem.specs.Cases.{label_code, labels_code};
 ghost use Rattle.case_labels.specs.Seen.{test_seen};
 ghost use Rattle.stmt_sem.specs.FlowTrees.{IsCodeOf, code_by};
 
-use crate::flow_sizes::{JUMP, label_size, sum};
+use crate::flow_sizes::{bound_size, jump_size, label_size, sum};
 use crate::flows::Code;
 use case_labels::LabelTest;
 use code_form::Instr;
@@ -30,7 +30,7 @@ pub fn forward(over: u64) -> Result<i32, Memory>
 pub fn backward(over: u64) -> Result<i32, Memory>
     ensures { IfOk result (λ d. d ≡ negsuc (over + 4)) }
 {
-    let distance = forward(sum(over, JUMP)?)?;
+    let distance = forward(sum(over, jump_size())?)?;
     Ok(-distance)
 }
 
@@ -56,26 +56,13 @@ fn push_label(piece: &mut Piece, label: &LabelTest, cell: u32) -> Result<(), Mem
         None => push_bound(piece, cell, label.low, Instr::Eq),
         Some(high) => {
             push_bound(piece, cell, label.low, Instr::Ge)?;
-            push_instr(piece, Instr::AndJump(20))?;
+            push_instr(piece, Instr::AndJump(forward(bound_size(Instr::Le))?))?;
             push_bound(piece, cell, high, Instr::Le)
         }
     }
 }
 
-/// Appends the tests of further labels, each of which is skipped where one before it holds.
-fn push_more_labels(piece: &mut Piece, labels: &[LabelTest], cell: u32) -> Result<(), Memory>
-    ensures begins { Begins piece.old piece.new }
-    ensures ok { (ws : List OpenWith)
-        → OnOk result (Appended piece.old piece.new ws (more_labels_code cell (map test_seen labels.now))) }
-{
-    for label in labels {
-        push_instr(piece, Instr::OrJump(forward(label_size(label))?))?;
-        push_label(piece, label, cell)?;
-    }
-    Ok(())
-}
-
-/// Appends the tests of an arm's labels.
+/// Appends the tests of an arm's labels, each of which is skipped where one before it holds.
 fn push_labels(piece: &mut Piece, labels: &[LabelTest], cell: u32) -> Result<(), Memory>
     ensures begins { Begins piece.old piece.new }
     ensures ok { (ws : List OpenWith)
@@ -85,7 +72,11 @@ fn push_labels(piece: &mut Piece, labels: &[LabelTest], cell: u32) -> Result<(),
         return push_instr(piece, Instr::Push(0));
     };
     push_label(piece, first, cell)?;
-    push_more_labels(piece, rest, cell)
+    for label in rest {
+        push_instr(piece, Instr::OrJump(forward(label_size(label))?))?;
+        push_label(piece, label, cell)?;
+    }
+    Ok(())
 }
 
 /// Appends a statement's own code, or a beginning of it.

@@ -1,5 +1,5 @@
 //! FOR: its values, and its code.
-ghost use Rattle.std.specs.Prelude.{◌≡◌, ◌∷◌, [], List, option_map, if◌then◌else◌};
+ghost use Rattle.std.specs.Prelude.{◌≡◌, List, option_map, if◌then◌else◌};
 ghost use Rattle.m2_base.specs.Gives.{and_then, gives};
 ghost use Rattle.m2_base.specs.Statics.Compatible.{is_number_type as spec_number};
 ghost use Rattle.m2_base.specs.Statics.ReadStatements.{IsReadExprOption};
@@ -9,8 +9,7 @@ ghost use Rattle.m2_base.specs.Views.{expr_view};
 ghost use Rattle.m2_base.specs.declared.notes.Notes.{Notes as NotesOf};
 ghost use Rattle.code_form.specs.declared.instr.Instr.TheVariants as instrs;
 ghost use Rattle.expr_sem.specs.Codings.{Coding, IsCoded, IsFragment, coded_in};
-ghost use Rattle.expr_sem.specs.Fragments.{AreSound, IsIn, IsMade, part};
-ghost use Rattle.expr_sem.specs.Parts.{plain, ◌⨟◌};
+ghost use Rattle.expr_sem.specs.Fragments.{AreSound, IsIn, part};
 ghost use Rattle.expr_sem.specs.declared.fragments.Node.{Node};
 ghost use Rattle.type_rules.specs.Sites.{SuitsSite};
 ghost use Rattle.stmt_sem.specs.Counting.{bound_value, comparison as spec_comparison, for_first as spec_first};
@@ -165,24 +164,6 @@ fn emit_last<S: Scopes>(
     Ok(Ask::Known(Code::Stored(value)))
 }
 
-/// The variable at this address takes its next value, of numbers of this side.
-fn add_step(
-    variable: Fragment,
-    by: i64,
-    side: u8,
-    fragments: &mut Fragments,
-) -> Result<Fragment, Memory>
-    requires { IsIn fragments.old.nodes.items variable }
-    ensures { IsMade fragments.old.nodes.items fragments.new.nodes.items result (part fragments.old.nodes.items
-        variable ⨟ plain (instrs.Dup ∷ instrs.Load ∷ instrs.Push by ∷ instrs.Add side ∷ instrs.Store ∷ [])) }
-{
-    let loaded = pair(Instr::Dup, Instr::Load, fragments)?;
-    let sum = pair(Instr::Push(by), Instr::Add(side), fragments)?;
-    let stored = instr_behind(sum, Instr::Store, fragments)?;
-    let next = fragments.then(loaded, stored)?;
-    fragments.then(variable, next)
-}
-
 /// The variable takes its next value.
 fn emit_step<S: Scopes>(
     scopes: &mut S,
@@ -198,7 +179,11 @@ fn emit_step<S: Scopes>(
         (λ c. gives (spec_step c.scene (coded_in fragments.old.nodes.items x) by)) }
 {
     let side = asked!(side_of(scopes, site, operand_type(&x.operand)));
-    answered(add_step(x.code, by, side, fragments))
+    let loaded = pair(Instr::Dup, Instr::Load, fragments)?;
+    let sum = pair(Instr::Push(by), Instr::Add(side), fragments)?;
+    let stored = instr_behind(sum, Instr::Store, fragments)?;
+    let next = fragments.then(loaded, stored)?;
+    answered(fragments.then(x.code, next))
 }
 
 /// The body as often as the variable is within its bounds; once where the variable is in error.

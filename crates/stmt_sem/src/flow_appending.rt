@@ -1,10 +1,9 @@
 //! Flows, appended to a piece of a block's code. Each knows the lengths of those that it is made of, so that every
 //! jump is known when it is appended.
-ghost use Rattle.std.specs.Prelude.{ℕ, ◌+◌, ◌-◌, ◌∷◌, [], OnErr, OnOk, pos};
+ghost use Rattle.std.specs.Prelude.{ℕ, ◌+◌, ◌-◌, [], OnErr, OnOk};
 ghost use Rattle.m2_base.specs.Lists.{Each};
 ghost use Rattle.code_form.specs.declared.instr.Instr.TheVariants.{Jump, JumpFalse};
 ghost use Rattle.expr_sem.specs.Fragments.{AreSound, IsIn, part};
-ghost use Rattle.expr_sem.specs.Parts.{plain, ◌⨟◌};
 ghost use Rattle.expr_sem.specs.Pieces.{Appended, Begins, IsAsBefore};
 ghost use Rattle.stmt_sem.specs.FlowTrees.{IsArmOver, IsCodeOf, IsFormOver, IsOver, IsOverIfAny, IsTurnsOver};
 ghost use Rattle.stmt_sem.specs.FlowTrees.{block_among, choice_among, code_by, flow_in, form_in, other_among};
@@ -17,7 +16,7 @@ ghost use Rattle.stmt_sem.specs.Flows.{with_cell as spec_with_cell};
 ghost use Rattle.stmt_sem.specs.Statements.{flow_or_nothing};
 
 use crate::code_appending::{append_code, backward, forward};
-use crate::flow_sizes::{JUMP, arms_size, block_size, other_size, sum};
+use crate::flow_sizes::{arms_size, block_size, jump_size, other_size, sum};
 use crate::flows::{Arm, Code, Flow, FlowForm, Turns};
 use code_form::Instr;
 use expr_sem::{Fragment, Fragments, Piece, With, append_all, capped_sum, push_instr};
@@ -33,38 +32,6 @@ struct Appender<'a> {
 }
 
 impl Appender<'_> {
-    /// Appends the last arm's body, or a beginning of it, behind its test.
-    #[cycle(flows)]
-    fn append_last_body(&self, body: &Flow, out: u64, piece: &mut Piece) -> Result<(), Memory>
-        requires sound { AreSound self.now.fragments.now.nodes.items }
-        requires there { IsOver self.now.fragments.now.nodes.items body.now }
-        ensures begins { Begins piece.old piece.new }
-        ensures ok { OnOk result
-            (Appended piece.old piece.new self.now.withs.now (plain (JumpFalse (pos (body.now.size)) ∷ [])
-            ⨟ part_at out (flow_in self.now.fragments.now.nodes.items body.now self.now.cell))) }
-    {
-        push_instr(piece, Instr::JumpFalse(forward(body.size)?))?;
-        self.append_inner(body, out, piece)
-    }
-
-    /// Appends an arm's body, or a beginning of it, behind its test and before what stands for the other cases, which
-    /// has so many bytes with one jump more.
-    #[cycle(flows)]
-    fn append_body(&self, body: &Flow, left: u64, out: u64, piece: &mut Piece) -> Result<(), Memory>
-        requires sound { AreSound self.now.fragments.now.nodes.items }
-        requires there { IsOver self.now.fragments.now.nodes.items body.now }
-        ensures begins { Begins piece.old piece.new }
-        ensures ok { OnOk result
-            (Appended piece.old piece.new self.now.withs.now (plain (JumpFalse (pos (body.now.size + 5)) ∷ [])
-            ⨟ (part_at (out + left) (flow_in self.now.fragments.now.nodes.items body.now self.now.cell)
-            ⨟ plain (Jump (pos (left - 5)) ∷ [])))) }
-    {
-        let size = sum(body.size, JUMP)?;
-        push_instr(piece, Instr::JumpFalse(forward(size)?))?;
-        self.append_inner(body, sum(out, left)?, piece)?;
-        push_instr(piece, Instr::Jump(forward(left.saturating_sub(JUMP))?))
-    }
-
     /// Appends an arm, or a beginning of it. What follows it has so many bytes with one jump more,
     /// or there is nothing.
     #[cycle(flows)]
@@ -77,11 +44,16 @@ impl Appender<'_> {
             (flow_in self.now.fragments.now.nodes.items arm.now.body self.now.cell)) }
     {
         append_code(self.fragments, &arm.test, self.cell, self.withs, piece)?;
+        let body = &arm.body;
         if left == 0 {
-            self.append_last_body(&arm.body, out, piece)
-        } else {
-            self.append_body(&arm.body, left, out, piece)
+            push_instr(piece, Instr::JumpFalse(forward(body.size)?))?;
+            return self.append_inner(body, out, piece);
         }
+        let jump = jump_size();
+        let size = sum(body.size, jump)?;
+        push_instr(piece, Instr::JumpFalse(forward(size)?))?;
+        self.append_inner(body, sum(out, left)?, piece)?;
+        push_instr(piece, Instr::Jump(forward(left.saturating_sub(jump))?))
     }
 
     /// Appends arms, or a beginning of them, before what stands where none is taken.
@@ -144,11 +116,12 @@ impl Appender<'_> {
             (part_at out (spec_while_true (part self.now.fragments.now.nodes.items test)
             (flow_in self.now.fragments.now.nodes.items body.now self.now.cell)))) }
     {
-        let behind = sum(body.size, JUMP)?;
+        let jump = jump_size();
+        let behind = sum(body.size, jump)?;
         let all = sum(self.fragments.size(test), behind)?;
         append_all(self.fragments, test, self.withs, piece)?;
         push_instr(piece, Instr::JumpFalse(forward(behind)?))?;
-        self.append_inner(body, sum(out, JUMP)?, piece)?;
+        self.append_inner(body, sum(out, jump)?, piece)?;
         push_instr(piece, Instr::Jump(backward(all)?))
     }
 
@@ -170,7 +143,7 @@ impl Appender<'_> {
             (part self.now.fragments.now.nodes.items test)))) }
     {
         let test_size = self.fragments.size(test);
-        let behind = sum(out, sum(test_size, JUMP)?)?;
+        let behind = sum(out, sum(test_size, jump_size())?)?;
         self.append_inner(body, behind, piece)?;
         append_all(self.fragments, test, self.withs, piece)?;
         let all = sum(body.size, test_size)?;
@@ -186,7 +159,7 @@ impl Appender<'_> {
         ensures ok { (out : ℕ) → OnOk result (Appended piece.old piece.new self.now.withs.now
             (part_at out (spec_for_ever (flow_in self.now.fragments.now.nodes.items body.now self.now.cell)))) }
     {
-        self.append_inner(body, JUMP, piece)?;
+        self.append_inner(body, jump_size(), piece)?;
         push_instr(piece, Instr::Jump(backward(body.size)?))
     }
 
@@ -207,7 +180,7 @@ impl Appender<'_> {
             (fragment_bytes self.now.fragments.now.nodes.items step) (code_by self.now.fragments.now.nodes.items
             again.now self.now.cell) (part self.now.fragments.now.nodes.items step))) }
     {
-        let step_size = sum(self.fragments.size(step), JUMP)?;
+        let step_size = sum(self.fragments.size(step), jump_size())?;
         let all = sum(sum(size, again.size(self.fragments)?)?, step_size)?;
         append_code(self.fragments, again, self.cell, self.withs, piece)?;
         push_instr(piece, Instr::JumpFalse(forward(step_size)?))?;
@@ -229,7 +202,8 @@ impl Appender<'_> {
             turns.again.size(self.fragments)?,
             self.fragments.size(turns.step),
         )?;
-        let behind = sum(codes, JUMP + JUMP)?;
+        let jump = jump_size();
+        let behind = sum(codes, jump + jump)?;
         append_code(self.fragments, &turns.first, self.cell, self.withs, piece)?;
         push_instr(piece, Instr::JumpFalse(forward(sum(size, behind)?)?))?;
         self.append_inner(&turns.body, sum(out, behind)?, piece)?;

@@ -10,7 +10,7 @@ ghost use Rattle.stmt_sem.specs.Flows.{nothing as spec_nothing, straight as spec
 ghost use Rattle.stmt_sem.specs.Flows.{until_true as spec_until_true, while_true as spec_while_true};
 ghost use Rattle.stmt_sem.specs.Flows.{with_cell as spec_with_cell};
 
-use crate::flow_sizes::{JUMP, block_size, choice_size, sum, turns_size};
+use crate::flow_sizes::{arms_size, block_size, jump_size, other_size, sum};
 use crate::flows::{Arm, Code, Flow, FlowForm, Turns};
 use expr_sem::{Fragment, Fragments};
 use m2_base::Memory;
@@ -58,7 +58,7 @@ impl Flow {
     {
         Flow {
             form: FlowForm::Exit,
-            size: JUMP,
+            size: jump_size(),
         }
     }
 
@@ -74,7 +74,8 @@ impl Flow {
         ensures { MadeBy fragments.now.nodes.items result
             (choice_among fragments.now.nodes.items arms.items other) }
     {
-        let size = choice_size(&arms, &other, fragments)?;
+        let total = sum(arms_size(&arms, fragments)?, other_size(&other)?)?;
+        let size = total.saturating_sub(jump_size());
         Ok(Flow {
             form: FlowForm::Choice(arms, other),
             size,
@@ -89,8 +90,9 @@ impl Flow {
         ensures { MadeBy fragments.now.nodes.items result
             (λ t. spec_while_true (part fragments.now.nodes.items test) (flow_in fragments.now.nodes.items body t)) }
     {
+        let jump = jump_size();
         let once = sum(fragments.size(test), body.size)?;
-        let size = sum(once, JUMP + JUMP)?;
+        let size = sum(once, jump + jump)?;
         let body = Box::new(*fragments.nodes.allocator(), body)?;
         Ok(Flow {
             form: FlowForm::WhileTrue(test, body),
@@ -107,7 +109,7 @@ impl Flow {
             (λ t. spec_until_true (flow_in fragments.now.nodes.items body t) (part fragments.now.nodes.items test)) }
     {
         let once = sum(body.size, fragments.size(test))?;
-        let size = sum(once, JUMP)?;
+        let size = sum(once, jump_size())?;
         let body = Box::new(*fragments.nodes.allocator(), body)?;
         Ok(Flow {
             form: FlowForm::UntilTrue(body, test),
@@ -119,7 +121,7 @@ impl Flow {
     pub fn for_ever(body: Flow, alloc: Global) -> Result<Flow, Memory>
         ensures { (ns : List Node) → IsOver ns body → MadeBy ns result (λ t. spec_for_ever (flow_in ns body t)) }
     {
-        let size = sum(body.size, JUMP)?;
+        let size = sum(body.size, jump_size())?;
         let body = Box::new(alloc, body)?;
         Ok(Flow {
             form: FlowForm::ForEver(body),
@@ -133,7 +135,10 @@ impl Flow {
         requires turns { IsTurnsOver fragments.now.nodes.items turns }
         ensures { MadeBy fragments.now.nodes.items result (turns_in fragments.now.nodes.items turns) }
     {
-        let size = turns_size(&turns, fragments)?;
+        let jump = jump_size();
+        let tests = sum(turns.first.size(fragments)?, turns.again.size(fragments)?)?;
+        let rest = sum(turns.body.size, fragments.size(turns.step))?;
+        let size = sum(sum(tests, rest)?, jump + jump + jump)?;
         let turns = Box::new(*fragments.nodes.allocator(), turns)?;
         Ok(Flow {
             form: FlowForm::Counted(turns),

@@ -1,22 +1,37 @@
 //! The length of a flow's code: it depends neither on where the code stands nor on the temporary cell.
-ghost use Rattle.std.specs.Prelude.{◌≡◌, ℕ, ◌+◌, List, IfOk, map};
+ghost use Rattle.std.specs.Prelude.{◌≡◌, ℕ, ◌+◌, List, IfOk, map, pos};
 ghost use Rattle.m2_base.specs.Lists.{Each};
 ghost use Rattle.stmt_sem.specs.Cases.{label_code, labels_code};
 ghost use Rattle.case_labels.specs.Seen.{test_seen};
+ghost use Rattle.code_form.specs.Bytes.{size};
+ghost use Rattle.code_form.specs.declared.instr.Instr.TheVariants.{Load, Local, Push};
 ghost use Rattle.expr_sem.specs.Fragments.{AreSound};
 ghost use Rattle.expr_sem.specs.declared.fragments.Node.{Node};
-ghost use Rattle.stmt_sem.specs.FlowTrees.{IsArmOver, IsCodeOf, IsOverIfAny, IsTurnsOver, Measures, MeasuresPart};
-ghost use Rattle.stmt_sem.specs.FlowTrees.{choice_among, code_by, other_among, turns_in};
+ghost use Rattle.stmt_sem.specs.FlowTrees.{IsArmOver, IsCodeOf, IsOverIfAny, MeasuresPart};
+ghost use Rattle.stmt_sem.specs.FlowTrees.{code_by, other_among};
 ghost use Rattle.stmt_sem.specs.FlowPieces.{Over};
-ghost use Rattle.stmt_sem.specs.FlowSizes.{arm_bytes, arms_bytes, block_bytes, label_bytes, labels_bytes};
+ghost use Rattle.stmt_sem.specs.FlowSizes.{arm_bytes, arms_bytes, block_bytes, label_bytes};
+ghost use Rattle.stmt_sem.specs.Flows.{jump_size as spec_jump_size};
 
-use crate::flows::{Arm, Code, Flow, Turns};
+use crate::flows::{Arm, Code, Flow};
 use case_labels::LabelTest;
+use code_form::Instr;
 use expr_sem::{Fragments, Step};
 use m2_base::Memory;
 
 /// The length of a jump in bytes.
-pub const JUMP: u64 = 5;
+pub fn jump_size() -> u64
+    ensures { result ≡ spec_jump_size }
+{
+    Instr::Jump(0).size()
+}
+
+/// The length of a test of the value in a cell against a bound.
+pub fn bound_size(test: Instr) -> u64
+    ensures { result ≡ size (Local 0 0) + size Load + size (Push (pos 0)) + size test }
+{
+    Instr::Local(0, 0).size() + Instr::Load.size() + Instr::Push(0).size() + test.size()
+}
 
 /// The sum, where it has 64 bits.
 pub fn sum(first: u64, second: u64) -> Result<u64, Memory>
@@ -34,31 +49,25 @@ pub fn label_size(label: &LabelTest) -> u64
     ensures bytes { result ≡ label_bytes label.now }
 {
     match label.high {
-        None => 20,
-        Some(_) => 45,
+        None => bound_size(Instr::Eq),
+        Some(_) => bound_size(Instr::Ge) + Instr::AndJump(0).size() + bound_size(Instr::Le),
     }
 }
 
-/// The length of the tests of labels, each with a jump.
-fn all_labels_size(labels: &[LabelTest]) -> Result<u64, Memory>
-    ensures { IfOk result (λ n. n ≡ labels_bytes labels.now) }
-{
-    let mut total: u64 = 0;
-    for label in labels {
-        let size = sum(label_size(label), JUMP)?;
-        total = sum(total, size)?;
-    }
-    Ok(total)
-}
-
-/// The length of the tests of an arm's labels.
+/// The length of the tests of an arm's labels, with a jump between each and the next.
 fn labels_size(labels: &[LabelTest]) -> Result<u64, Memory>
     ensures { IfOk result (λ n. MeasuresPart (λ t. labels_code t (map test_seen labels.now)) n) }
 {
     if labels.is_empty() {
-        return Ok(9);
+        return Ok(Instr::Push(0).size());
     }
-    Ok(all_labels_size(labels)?.saturating_sub(JUMP))
+    let jump = jump_size();
+    let mut total: u64 = 0;
+    for label in labels {
+        let size = sum(label_size(label), jump)?;
+        total = sum(total, size)?;
+    }
+    Ok(total.saturating_sub(jump))
 }
 
 impl Code {
@@ -70,9 +79,13 @@ impl Code {
     {
         match self {
             Code::Fixed(fragment) => Ok(fragments.size(*fragment)),
-            Code::Stored(fragment) => sum(fragments.size(*fragment), 10),
+            Code::Stored(fragment) => {
+                let around = Instr::Local(0, 0).size() + Instr::Store.size();
+                sum(fragments.size(*fragment), around)
+            }
             Code::Compared(fragment, instr) => {
-                let compared = sum(fragments.size(*fragment), 11)?;
+                let loads = Instr::Load.size() + Instr::Local(0, 0).size() + Instr::Load.size();
+                let compared = sum(fragments.size(*fragment), loads)?;
                 sum(compared, Step::plain(*instr).size())
             }
             Code::Labels(labels) => labels_size(labels),
@@ -98,8 +111,8 @@ impl Arm {
         requires there { IsArmOver fragments.now.nodes.items self.now }
         ensures { IfOk result (λ n. n ≡ arm_bytes fragments.now.nodes.items self.now) }
     {
-        let jumps = JUMP + JUMP;
-        let test = sum(self.test.size(fragments)?, jumps)?;
+        let jump = jump_size();
+        let test = sum(self.test.size(fragments)?, jump + jump)?;
         sum(test, self.body.size)
     }
 }
@@ -123,33 +136,7 @@ pub fn other_size(other: &Option<Box<Flow>>) -> Result<u64, Memory>
         → IfOk result (λ n. (cell : ℕ) → Over (other_among ns other.now cell) n) }
 {
     match other {
-        Some(flow) => sum(flow.size, JUMP),
+        Some(flow) => sum(flow.size, jump_size()),
         None => Ok(0),
     }
-}
-
-/// The length of arms and of what stands where none is taken.
-pub fn choice_size(
-    arms: &[Arm],
-    other: &Option<Box<Flow>>,
-    fragments: &Fragments,
-) -> Result<u64, Memory>
-    requires sound { AreSound fragments.now.nodes.items }
-    requires arms { Each (IsArmOver fragments.now.nodes.items) arms.now }
-    requires other { IsOverIfAny fragments.now.nodes.items other.now }
-    ensures { IfOk result (λ n. Measures (choice_among fragments.now.nodes.items arms.now other.now) n) }
-{
-    let total = sum(arms_size(arms, fragments)?, other_size(other)?)?;
-    Ok(total.saturating_sub(JUMP))
-}
-
-/// The length of a loop that counts.
-pub fn turns_size(turns: &Turns, fragments: &Fragments) -> Result<u64, Memory>
-    requires sound { AreSound fragments.now.nodes.items }
-    requires there { IsTurnsOver fragments.now.nodes.items turns.now }
-    ensures { IfOk result (λ n. Measures (turns_in fragments.now.nodes.items turns.now) n) }
-{
-    let tests = sum(turns.first.size(fragments)?, turns.again.size(fragments)?)?;
-    let rest = sum(turns.body.size, fragments.size(turns.step))?;
-    sum(sum(tests, rest)?, JUMP + JUMP + JUMP)
 }

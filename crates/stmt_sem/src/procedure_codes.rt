@@ -5,7 +5,6 @@ ghost use Rattle.code_form.specs.Bytes.{spelling};
 ghost use Rattle.code_form.specs.Heights.{greatest};
 ghost use Rattle.expr_sem.specs.Fragments.{step_view};
 ghost use Rattle.m2_base.specs.Statics.ProcedureRows.{parameter_cells as spec_cells, section_cells as spec_section};
-ghost use Rattle.m2_base.specs.Statics.ProcedureRows.{result_cells as spec_result};
 ghost use Rattle.m2_base.specs.Views.{heading_view, section_view, stream_view};
 ghost use Rattle.stmt_sem.specs.BlockCode.{code_of_run, outer_of as spec_outer, params_of as spec_params};
 ghost use Rattle.stmt_sem.specs.BlockCode.{results_of as spec_results};
@@ -94,23 +93,16 @@ fn params_of(heading: &Option<Heading>) -> Result<u32, Memory>
     }
 }
 
-/// The cells of a heading's result.
-fn result_cells(heading: &Heading) -> u32
-    ensures { result ≡ spec_result (heading_view heading.now).result }
-{
-    match &heading.result {
-        None => 0,
-        Some(_) => 1,
-    }
-}
-
 /// The cells of the result of a block.
 pub fn results_of(heading: &Option<Heading>) -> u32
     ensures { result ≡ spec_results (option_map heading_view heading.now) }
 {
     match heading {
         None => 0,
-        Some(heading) => result_cells(heading),
+        Some(heading) => match &heading.result {
+            None => 0,
+            Some(_) => 1,
+        },
     }
 }
 

@@ -2,19 +2,16 @@
 ghost use Rattle.std.specs.Prelude.{◌≡◌, List, IfOk, OnErr, pos};
 ghost use Rattle.m2_base.specs.Diagnostics.{code_of};
 ghost use Rattle.m2_base.specs.Noting.{IsRefused};
-ghost use Rattle.m2_base.specs.Standard.{broken};
 ghost use Rattle.m2_base.specs.States.{State};
 ghost use Rattle.m2_base.specs.Statics.Contexts.{refuse as spec_refuse};
-ghost use Rattle.type_rules.specs.Scenes.{IsThere};
 ghost use Rattle.expr_sem.specs.Codings.{Coding, IsFragment};
 ghost use Rattle.expr_sem.specs.Fragments.{part};
 ghost use Rattle.expr_sem.specs.Parts.{none};
 ghost use Rattle.expr_sem.specs.declared.fragments.Node.{Node};
-ghost use Rattle.stmt_sem.specs.Plain.{IsStep, IsType, itself};
+ghost use Rattle.stmt_sem.specs.Plain.{IsStep, itself};
 
 use expr_sem::Fragment;
-use m2_base::{Ask, Diagnostic, Memory, Notes, Place, Site};
-use type_rules::BROKEN;
+use m2_base::{Ask, Diagnostic, Memory, Notes, Site};
 
 /// Notes a diagnostic at a token.
 pub fn noted(site: &Site, at: u32, refusal: Diagnostic, notes: &mut Notes) -> Result<(), Memory>
@@ -37,20 +34,6 @@ pub fn refused_code(
 {
     noted(site, at, refusal, notes)?;
     Ok(Ask::Known(Fragment::Nothing))
-}
-
-/// Notes a diagnostic at a token; the type is that of parts in error.
-pub fn refused_type(
-    site: &Site,
-    at: u32,
-    refusal: Diagnostic,
-    notes: &mut Notes,
-) -> Result<Ask<Place>, Memory>
-    ensures { (state : State) (nodes : List Node) → IsThere state.frame broken → Coding state state notes.old notes.new
-        nodes nodes site.now result IsType itself (λ c. spec_refuse c at (code_of refusal) broken) }
-{
-    noted(site, at, refusal, notes)?;
-    Ok(Ask::Known(BROKEN))
 }
 
 /// Notes a diagnostic at a token; the step is 1.

@@ -1,17 +1,13 @@
 //! RETURN, with a value or without.
-ghost use Rattle.m2_base.specs.Gives.{and_then, gives};
+ghost use Rattle.m2_base.specs.Gives.{gives};
 ghost use Rattle.m2_base.specs.States.{State};
-ghost use Rattle.m2_base.specs.Statics.Diagnostics.{not_assignable};
 ghost use Rattle.m2_base.specs.declared.notes.Notes.{Notes as NotesOf};
 ghost use Rattle.code_form.specs.declared.instr.Instr.TheVariants as instrs;
 ghost use Rattle.expr_sem.specs.Codings.{Coding, IsCoded, IsFragment, coded_in};
-ghost use Rattle.expr_sem.specs.Fitting.{fitted_code as spec_fitted};
-ghost use Rattle.expr_sem.specs.Fragments.{IsIn, IsMade, part};
-ghost use Rattle.expr_sem.specs.Parts.{call, ◌⨟◌};
-ghost use Rattle.expr_sem.specs.Values.{assigned_to as spec_assigned};
+ghost use Rattle.expr_sem.specs.Fragments.{part};
 ghost use Rattle.type_rules.specs.Scenes.{IsThere};
 ghost use Rattle.type_rules.specs.Sites.{SuitsSite};
-ghost use Rattle.stmt_sem.specs.Returns.{return_alone as spec_alone, return_code as spec_return};
+ghost use Rattle.stmt_sem.specs.Returns.{return_alone as spec_alone};
 ghost use Rattle.stmt_sem.specs.Returns.{return_value as spec_value, returned as spec_returned};
 ghost use Rattle.stmt_sem.specs.Stands.{IsStand};
 ghost use Rattle.stmt_sem.specs.Walkers.{Codes, Keeps, frame_of, nodes_of};
@@ -23,50 +19,6 @@ use code_form::Instr;
 use const_eval::is_bad;
 use expr_sem::{Coded, Fragment, Fragments, Placed, Step, answered, fitted_code};
 use m2_base::{Ask, Diagnostic, Memory, Notes, Place, Scopes, Site};
-
-/// The end of a procedure that has no result.
-pub fn return_code(fragments: &mut Fragments) -> Result<Fragment, Memory>
-    ensures { IsMade fragments.old.nodes.items fragments.new.nodes.items result spec_return }
-{
-    fragments.step(Step {
-        instr: Instr::Return,
-        takes: 0,
-        leaves: 0,
-    })
-}
-
-/// The end of a function, behind its value.
-fn return_behind(value: Fragment, fragments: &mut Fragments) -> Result<Fragment, Memory>
-    requires { IsIn fragments.old.nodes.items value }
-    ensures { IsMade fragments.old.nodes.items fragments.new.nodes.items result
-        (part fragments.old.nodes.items value ⨟ call instrs.Return 1 0) }
-{
-    let last = fragments.step(Step {
-        instr: Instr::Return,
-        takes: 1,
-        leaves: 0,
-    })?;
-    fragments.then(value, last)
-}
-
-/// The end of a function with this value, which isn't in error.
-fn fitted_return<S: Scopes>(
-    scopes: &mut S,
-    site: &Site,
-    of: Place,
-    x: Coded,
-    fragments: &mut Fragments,
-) -> Result<Ask<Fragment>, Memory>
-    requires suits { SuitsSite (S.state scopes.old).frame site.now }
-    requires of { IsThere (S.state scopes.old).frame of }
-    requires x { IsCoded (S.state scopes.old).frame fragments.old.nodes.items x }
-    ensures { (notes : NotesOf) → Coding (S.state scopes.old) (S.state scopes.new) notes notes
-        fragments.old.nodes.items fragments.new.nodes.items site.now result IsFragment part
-        (λ c. gives (spec_fitted c of (coded_in fragments.old.nodes.items x) ⨟ call instrs.Return 1 0)) }
-{
-    let value = analysed!(fitted_code(scopes, site, of, x, fragments));
-    answered(return_behind(value, fragments))
-}
 
 /// The end of a function with this value, unless it is in error.
 fn returned<S: Scopes>(
@@ -86,7 +38,13 @@ fn returned<S: Scopes>(
     if is_bad(x.operand) {
         return Ok(Ask::Known(Fragment::Nothing));
     }
-    fitted_return(scopes, site, of, x, fragments)
+    let value = analysed!(fitted_code(scopes, site, of, x, fragments));
+    let last = fragments.step(Step {
+        instr: Instr::Return,
+        takes: 1,
+        leaves: 0,
+    })?;
+    answered(fragments.then(value, last))
 }
 
 /// RETURN without a value, in a procedure with this result.
@@ -101,31 +59,16 @@ pub fn return_alone(
         fragments.new.nodes.items site.now result IsFragment part (λ c. spec_alone c at of) }
 {
     match of {
-        None => answered(return_code(fragments)),
+        None => answered(fragments.step(Step {
+            instr: Instr::Return,
+            takes: 0,
+            leaves: 0,
+        })),
         Some(_) => refused_code(site, at, Diagnostic::WrongReturn, notes),
     }
 }
 
 impl<S: Scopes> Walker<'_, S> {
-    /// RETURN with a value, in a function with a result of this type.
-    fn return_of_type(
-        &mut self,
-        stand: &Stand,
-        of: Place,
-        x: Placed,
-    ) -> Result<Ask<Fragment>, Memory>
-        requires stand { IsStand (frame_of S.state self.old) stand.now }
-        requires of { IsThere (frame_of S.state self.old) of }
-        requires x { IsCoded (frame_of S.state self.old) (nodes_of self.old) x.coded }
-        ensures keeps { Keeps self.old self.new }
-        ensures codes { Codes S.state self.old self.new stand.now result IsFragment part
-            (λ s. and_then (spec_assigned s.context of x.at not_assignable (coded_in (nodes_of self.old) x.coded))
-            (λ v. gives (spec_returned s.context of v))) }
-    {
-        let value = analysed!(self.assigned_to(stand, of, Diagnostic::NotAssignable, x));
-        returned(self.scopes, stand.site, of, value, self.fragments)
-    }
-
     /// RETURN with a value.
     pub(crate) fn return_value(
         &mut self,
@@ -139,9 +82,10 @@ impl<S: Scopes> Walker<'_, S> {
         ensures codes { Codes S.state self.old self.new stand.now result IsFragment part
             (λ s. spec_value s.context at s.result x.at (coded_in (nodes_of self.old) x.coded)) }
     {
-        match stand.result {
-            None => refused_code(stand.site, at, Diagnostic::WrongReturn, self.notes),
-            Some(of) => self.return_of_type(stand, of, x),
-        }
+        let Some(of) = stand.result else {
+            return refused_code(stand.site, at, Diagnostic::WrongReturn, self.notes);
+        };
+        let value = analysed!(self.assigned_to(stand, of, Diagnostic::NotAssignable, x));
+        returned(self.scopes, stand.site, of, value, self.fragments)
     }
 }

@@ -19,14 +19,18 @@ ghost use Rattle.stmt_sem.specs.Stands.{IsStand, names_of, stand_in};
 ghost use Rattle.stmt_sem.specs.Statements.{exit_of, form_flow};
 ghost use Rattle.stmt_sem.specs.Walkers.{Keeps, Walks, frame_of, nodes_of};
 
-use crate::cases::no_case;
+use crate::assignments::code_unless_bad;
 use crate::flow_parts::answered;
 use crate::flows::{Code, Flow};
 use crate::refusals::noted;
 use crate::stands::Stand;
 use crate::walker::Walker;
+use code_form::Instr;
 use expr_sem::{Fragments, Placed};
 use m2_base::{Ask, Designator, Diagnostic, Expr, Memory, Notes, Scopes};
+
+/// The trap where no label of a CASE holds.
+const NO_CASE: u8 = 8;
 
 impl<S: Scopes> Walker<'_, S> {
     /// An assignment.
@@ -69,7 +73,8 @@ impl<S: Scopes> Walker<'_, S> {
         ensures walks { Walks S.state self.old self.new stand.now result IsFlow flow_in
             (λ s. form_of s (spec_call (designator_view to.now) (exprs (map expr_view args.now)))) }
     {
-        let code = analysed!(self.called(stand, to, args));
+        let x = analysed!(self.call_alone(stand, to, args));
+        let code = code_unless_bad(x);
         answered(Flow::straight(Code::Fixed(code), self.fragments))
     }
 
@@ -110,6 +115,6 @@ pub fn no_case_else(fragments: &mut Fragments) -> Result<Ask<Flow>, Memory>
     ensures { (state : State) (notes : NotesOf) (s : SiteOf) → Flowing state state notes notes
         fragments.old.nodes.items fragments.new.nodes.items s result IsFlow flow_in (λ c. gives (straight spec_none)) }
 {
-    let trap = no_case(fragments)?;
+    let trap = fragments.one(Instr::Trap(NO_CASE))?;
     answered(Flow::straight(Code::Fixed(trap), fragments))
 }

@@ -1,19 +1,17 @@
-//! Parts of code that statements have of their own: variables, calls, tests, selectors and the variables of WITHs.
-ghost use Rattle.std.specs.Prelude.{map, option_map};
-ghost use Rattle.m2_base.specs.Statics.ReadTrees.{AreReadExprs, IsReadDesignator, IsReadExpr};
-ghost use Rattle.m2_base.specs.Trees.{exprs};
+//! Parts of code that statements have of their own: variables, tests, values of RETURN, selectors and the variables of
+//! WITHs.
+ghost use Rattle.std.specs.Prelude.{option_map};
+ghost use Rattle.m2_base.specs.Statics.ReadTrees.{IsReadDesignator, IsReadExpr};
 ghost use Rattle.m2_base.specs.Views.{designator_view, expr_view};
 ghost use Rattle.expr_sem.specs.Codings.{IsCoded, IsFragment, coded_in};
 ghost use Rattle.expr_sem.specs.Fragments.{part};
 ghost use Rattle.m2_base.specs.Statics.ReadStatements.{IsReadExprOption};
 ghost use Rattle.stmt_sem.specs.Stands.{IsStand, names_of};
-ghost use Rattle.stmt_sem.specs.StatementParts.{called as spec_called, record_of as spec_record};
-ghost use Rattle.stmt_sem.specs.StatementParts.{selector as spec_selector, typed_selector as spec_typed};
+ghost use Rattle.stmt_sem.specs.StatementParts.{record_of as spec_record, selector as spec_selector};
 ghost use Rattle.stmt_sem.specs.Statements.{return_of, test as spec_test, variable as spec_variable};
 ghost use Rattle.stmt_sem.specs.Taken.{IsSelector, selector_in};
-ghost use Rattle.stmt_sem.specs.Walkers.{Codes, Keeps, frame_of, nodes_of};
+ghost use Rattle.stmt_sem.specs.Walkers.{Codes, Keeps, frame_of};
 
-use crate::assignments::code_unless_bad;
 use crate::cases::{Selected, selector_type, selector_value};
 use crate::returns::return_alone;
 use crate::stands::Stand;
@@ -48,24 +46,6 @@ impl<S: Scopes> Walker<'_, S> {
         self.test_code(stand, x)
     }
 
-    /// A call.
-    pub(crate) fn called(
-        &mut self,
-        stand: &Stand,
-        of: &Designator,
-        args: &[Expr],
-    ) -> Result<Ask<Fragment>, Memory>
-        requires stand { IsStand (frame_of S.state self.old) stand.now }
-        requires of { IsReadDesignator (names_of stand.now) (designator_view of.now) }
-        requires args { AreReadExprs (names_of stand.now) (exprs (map expr_view args.now)) }
-        ensures keeps { Keeps self.old self.new }
-        ensures codes { Codes S.state self.old self.new stand.now result IsFragment part
-            (λ s. spec_called s (designator_view of.now) (exprs (map expr_view args.now))) }
-    {
-        let x = analysed!(self.call_alone(stand, of, args));
-        Ok(Ask::Known(code_unless_bad(x)))
-    }
-
     /// RETURN with a value or without.
     pub(crate) fn returned(
         &mut self,
@@ -89,19 +69,6 @@ impl<S: Scopes> Walker<'_, S> {
         }
     }
 
-    /// The value of a selector that is there, and its type.
-    fn typed_selector(&mut self, stand: &Stand, x: Placed) -> Result<Ask<Selected>, Memory>
-        requires stand { IsStand (frame_of S.state self.old) stand.now }
-        requires x { IsCoded (frame_of S.state self.old) (nodes_of self.old) x.coded }
-        ensures keeps { Keeps self.old self.new }
-        ensures codes { Codes S.state self.old self.new stand.now result IsSelector selector_in
-            (λ s. spec_typed s x.at (coded_in (nodes_of self.old) x.coded)) }
-    {
-        let of = analysed!(selector_type(self.scopes, stand.site, x.at, x.coded, self.notes));
-        let value = analysed!(selector_value(self.scopes, stand.site, x.coded, self.fragments));
-        Ok(Ask::Known(Selected { value, of }))
-    }
-
     /// The value of a selector, and its type.
     pub(crate) fn selector(&mut self, stand: &Stand, e: &Expr) -> Result<Ask<Selected>, Memory>
         requires stand { IsStand (frame_of S.state self.old) stand.now }
@@ -110,9 +77,10 @@ impl<S: Scopes> Walker<'_, S> {
         ensures codes { Codes S.state self.old self.new stand.now result IsSelector selector_in
             (λ s. spec_selector s (expr_view e.now)) }
     {
-        let coded = analysed!(self.value_of(stand, e));
-        let x = Placed { at: e.at, coded };
-        self.typed_selector(stand, x)
+        let x = analysed!(self.value_of(stand, e));
+        let of = analysed!(selector_type(self.scopes, stand.site, e.at, x, self.notes));
+        let value = analysed!(selector_value(self.scopes, stand.site, x, self.fragments));
+        Ok(Ask::Known(Selected { value, of }))
     }
 
     /// The variable of a WITH.

@@ -1,13 +1,9 @@
 //! The tests of IF, WHILE and REPEAT.
-ghost use Rattle.std.specs.Prelude.{◌≡◌, if◌then◌else◌};
-ghost use Rattle.m2_base.specs.Gives.{gives};
-ghost use Rattle.m2_base.specs.States.{State, Waits};
-ghost use Rattle.m2_base.specs.Statics.Contexts.{refuse};
-ghost use Rattle.m2_base.specs.Statics.Diagnostics.{not_boolean};
+ghost use Rattle.std.specs.Prelude.{◌≡◌};
+ghost use Rattle.m2_base.specs.States.{Waits};
 ghost use Rattle.m2_base.specs.Statics.Operations.{is_boolean as spec_boolean};
 ghost use Rattle.const_eval.specs.Sites.{IsOperand};
-ghost use Rattle.expr_sem.specs.Coded.{value_code as spec_value_code};
-ghost use Rattle.expr_sem.specs.Codings.{Coding, IsCoded, IsFragment, coded_in};
+ghost use Rattle.expr_sem.specs.Codings.{IsCoded, IsFragment, coded_in};
 ghost use Rattle.expr_sem.specs.Fragments.{IsMade, part};
 ghost use Rattle.type_rules.specs.Asks.{Reads, WhereKnown, WhereWaiting};
 ghost use Rattle.type_rules.specs.Scenes.{WhereTold};
@@ -16,13 +12,13 @@ ghost use Rattle.stmt_sem.specs.Stands.{IsStand};
 ghost use Rattle.stmt_sem.specs.Tests.{false_code as spec_false, test_code as spec_test};
 ghost use Rattle.stmt_sem.specs.Walkers.{Codes, Keeps, frame_of, nodes_of};
 
-use crate::refusals::refused_code;
+use crate::refusals::noted;
 use crate::stands::Stand;
 use crate::walker::Walker;
 use code_form::Instr;
 use const_eval::is_bad;
 use expr_sem::{Fragment, Fragments, Placed, answered, value_code};
-use m2_base::{Ask, Diagnostic, Memory, Notes, Operand, Place, Scopes, Site};
+use m2_base::{Ask, Diagnostic, Memory, Operand, Scopes, Site};
 use type_rules::{BOOLEAN, base_of, operand_type};
 
 /// FALSE.
@@ -47,38 +43,8 @@ fn is_boolean<S: Scopes>(scopes: &mut S, site: &Site, operand: Operand) -> Ask<b
     Ask::Known(base == BOOLEAN)
 }
 
-/// A test that is no BOOLEAN is refused, and stands as FALSE.
-fn refused_test(
-    site: &Site,
-    at: u32,
-    fragments: &mut Fragments,
-    notes: &mut Notes,
-) -> Result<Ask<Fragment>, Memory>
-    ensures { (state : State) → Coding state state notes.old notes.new fragments.old.nodes.items
-        fragments.new.nodes.items site.now result IsFragment part (λ c. refuse c at not_boolean spec_false) }
-{
-    let _none = analysed!(refused_code(site, at, Diagnostic::NotBoolean, notes));
-    answered(false_code(fragments))
-}
-
 impl<S: Scopes> Walker<'_, S> {
-    /// A test that isn't in error.
-    fn test_wanted(&mut self, stand: &Stand, x: Placed) -> Result<Ask<Fragment>, Memory>
-        requires stand { IsStand (frame_of S.state self.old) stand.now }
-        requires x { IsCoded (frame_of S.state self.old) (nodes_of self.old) x.coded }
-        ensures keeps { Keeps self.old self.new }
-        ensures codes { Codes S.state self.old self.new stand.now result IsFragment part
-            (λ s. if spec_boolean s.context x.coded.operand then gives (spec_value_code s.context
-            (coded_in (nodes_of self.old) x.coded)) else refuse s.context x.at not_boolean spec_false) }
-    {
-        let boolean = asked!(is_boolean(self.scopes, stand.site, x.coded.operand));
-        if boolean {
-            return value_code(self.scopes, stand.site, x.coded, self.fragments);
-        }
-        refused_test(stand.site, x.at, self.fragments, self.notes)
-    }
-
-    /// The code of a test.
+    /// The code of a test. One that is no BOOLEAN is refused, and stands as FALSE, as does one in error.
     pub(crate) fn test_code(&mut self, stand: &Stand, x: Placed) -> Result<Ask<Fragment>, Memory>
         requires stand { IsStand (frame_of S.state self.old) stand.now }
         requires x { IsCoded (frame_of S.state self.old) (nodes_of self.old) x.coded }
@@ -89,6 +55,11 @@ impl<S: Scopes> Walker<'_, S> {
         if is_bad(x.coded.operand) {
             return answered(false_code(self.fragments));
         }
-        self.test_wanted(stand, x)
+        let boolean = asked!(is_boolean(self.scopes, stand.site, x.coded.operand));
+        if boolean {
+            return value_code(self.scopes, stand.site, x.coded, self.fragments);
+        }
+        noted(stand.site, x.at, Diagnostic::NotBoolean, self.notes)?;
+        answered(false_code(self.fragments))
     }
 }

@@ -1,4 +1,4 @@
-use Rattle.std.proofs.Common.{◌∷◌, [], ℤ, FitsSigned, Option, Some, ap, pos, refl, rules, subst, sym, w64}
+use Rattle.std.proofs.Common.{◌≡◌, ◌∙◌, ◌∷◌, [], ℤ, FitsSigned, Option, Some, ap, pos, rules, subst, sym, w32, w64}
 use Rattle.std.specs.Prelude.{OnOk}
 use Rattle.std.proofs.lemmas.Int.{to_z-of_z}
 use Rattle.code_form.specs.declared.instr.Instr.TheVariants.{AndJump, Eq, Ge, Le, Load, Local, Push}
@@ -28,9 +28,11 @@ returns-in_ok-push_instr-in-Some-clause-ok c ws =
     let low = c.args.label.now.low in
     let f : FitsSigned w64 low = search rules in
     let g : FitsSigned w64 c.in-Some.high = search rules in
+    let over : FitsSigned w32 c.in_ok-forward-in-Some.field-0 = search rules in
+    let distance : _ ≡ pos 20 = to_z-of_z w32 c.in_ok-forward-in-Some.field-0 over ∙ c.in_ok-forward-in-Some.ensures ∙ ap pos c.bound_size.ensures in
     let high = plain (Local 0 t ∷ Load ∷ Push c.in-Some.high ∷ Le ∷ []) in
     subst (λ (h : Option ℤ). OnOk r (Appended c.args.piece.now e ws (label_by t low h))) (sym c.in-Some.is)
     (then_on r e (plain (AndJump (pos 20) ∷ []) ⨟ high) (label_by t low (Some c.in-Some.high)) (c.in_ok-push_bound-in-Some.ensures.ok ws)
     (ap (λ (v : ℤ). (plain (Local 0 t ∷ Load ∷ Push v ∷ Ge ∷ []) ⨟ (plain (AndJump (pos 20) ∷ []) ⨟ high)) (spot_of c.args.piece.now ws)) (to_z-of_z w64 low f))
-    (then_on r e high (plain (AndJump (pos 20) ∷ []) ⨟ high) (c.in_ok-push_instr-in-Some.ensures.ok ws) refl
+    (then_on r e high (plain (AndJump (pos 20) ∷ []) ⨟ high) (c.in_ok-push_instr-in-Some.ensures.ok ws) (ap (λ (i : ℤ). (plain (AndJump i ∷ []) ⨟ high) (spot_of c.push_bound-in-Some.new.piece ws)) distance)
     (subst (λ (v : ℤ). OnOk r (Appended c.push_instr.new.piece e ws (plain (Local 0 t ∷ Load ∷ Push v ∷ Le ∷ [])))) (to_z-of_z w64 c.in-Some.high g) (c.push_bound-in-Some-2.ensures.ok ws))))

@@ -6,7 +6,7 @@ use Rattle.stmt_sem.proofs.returns.return_alone.Goals as goal
 
 pub returns-in-None : goal.returns-in-None
 returns-in-None c state =
-    described c.answered.result (made_alone c.args.notes.now c.return_code.result c.answered.result (λ k. return_code) c.answered.ensures c.return_code.ensures (λ made. refl))
+    described c.answered.result (made_alone c.args.notes.now c.step.result c.answered.result (λ k. return_code) c.answered.ensures c.step.ensures.made (λ made. refl))
     (λ k. ap (return_alone k c.args.at) (sym c.in-None.is))
 
 pub returns-in-Some : goal.returns-in-Some

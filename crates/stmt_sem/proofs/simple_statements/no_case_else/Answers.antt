@@ -8,12 +8,12 @@ use Rattle.stmt_sem.proofs.SimpleGiven.{fragment_wanted}
 use Rattle.stmt_sem.proofs.simple_statements.no_case_else.Goals as goal
 
 pub returns-in_err-trap : goal.returns-in_err-trap
-returns-in_err-trap c state notes s = fragment_wanted state notes s c.from_residual.result c.from_residual.ensures.0 c.in_err-trap.ensures
+returns-in_err-trap c state notes s = fragment_wanted state notes s c.from_residual.result c.from_residual.ensures.0 c.in_err-trap.ensures.made
 
 pub straight-requires-clause-sound : goal.straight-requires-clause-sound
-straight-requires-clause-sound c = c.in_ok-trap.ensures.grows.sound c.requires.sound
+straight-requires-clause-sound c = c.in_ok-trap.ensures.made.grows.sound c.requires.sound
 
 pub returns : goal.returns
 returns c state notes s =
-    let one = of_coding _ (fragment_made state notes s c.in_ok-trap.trap no_case (λ k. no_case) c.in_ok-trap.ensures (λ k. refl)) in
+    let one = of_coding _ (fragment_made state notes s c.in_ok-trap.trap no_case (λ k. no_case) c.in_ok-trap.ensures.made (λ k. refl)) in
     by_answer c.straight.result c.answered.result c.answered.ensures (made_after (λ k. gives no_case) (λ p. straight p) c.straight.result one c.straight.ensures (λ p same cell. ap straight (same cell)))

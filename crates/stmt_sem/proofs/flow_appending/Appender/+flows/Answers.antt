@@ -34,9 +34,10 @@ append_while-returns-clause-ok t c =
     let n = c.args.body.now.size in
     let over : FitsSigned w32 c.in_ok-forward.field-0 = search rules in
     let back : FitsSigned w32 c.in_ok-backward.field-0 = search rules in
-    let behind = c.in_ok-behind.ensures in
+    let five = c.jump_size-jump.ensures in
+    let behind = c.in_ok-behind.ensures ∙ ap (λ (i : ℕ). n + i) five in
     while_on c.push_instr-2.result c.push_instr-2.new.piece c.args.out _ m n _ _ (part ns c.args.test) (flow_in ns c.args.body.now c.args.self.now.cell)
-    (c.size.ensures c.requires.sound) (c.requires.body.1 c.args.self.now.cell) c.in_ok-sum.ensures
+    (c.size.ensures c.requires.sound) (c.requires.body.1 c.args.self.now.cell) (c.in_ok-sum.ensures ∙ ap (λ (i : ℕ). c.args.out + i) five)
     (to_z-of_z w32 c.in_ok-forward.field-0 over ∙ c.in_ok-forward.ensures ∙ ap pos behind)
     (to_z-of_z w32 c.in_ok-backward.field-0 back ∙ c.in_ok-backward.ensures ∙ ap (λ (i : ℕ). negsuc (i + 4)) (c.in_ok-all.ensures ∙ ap (λ (i : ℕ). m + i) behind))
     c.in_ok-append_all.ensures.ok (c.in_ok-push_instr.ensures.ok ws) c.in_ok-append_inner.ensures.ok (c.push_instr-2.ensures.ok ws)
@@ -45,25 +46,13 @@ pub append_with_cell-returns-clause-ok : goal.append_with_cell-returns-clause-ok
 append_with_cell-returns-clause-ok t c =
     with_cell_on c.append_inner.result c.args.piece.now c.append_inner.new.piece c.args.self.now.withs.now c.args.out c.capped_sum-piece.result (flow_in c.args.self.now.fragments.now.nodes.items c.args.body.now) c.capped_sum-piece.ensures c.append_inner.ensures.ok
 
-pub append_arm-returns-then-left-eq0-clause-ok : goal.append_arm-returns-then-left-eq0-clause-ok
-append_arm-returns-then-left-eq0-clause-ok t c =
-    let ns = c.args.self.now.fragments.now.nodes.items in
-    let body = c.args.arm.now.body in
-    last_arm c.append_last_body.result c.append_last_body.new.piece c.args.out c.args.left body.size (code_by ns c.args.arm.now.test c.args.self.now.cell) (flow_in ns body c.args.self.now.cell)
-    (c.requires.there.1.1 c.args.self.now.cell) (grind (arith, c.if-left-eq0.true)) c.in_ok-append_code.ensures.ok c.append_last_body.ensures.ok
-
-pub append_arm-returns-else-left-eq0-clause-ok : goal.append_arm-returns-else-left-eq0-clause-ok
-append_arm-returns-else-left-eq0-clause-ok t c =
-    let ns = c.args.self.now.fragments.now.nodes.items in
-    let body = c.args.arm.now.body in
-    first_arm c.append_body.result c.append_body.new.piece c.args.out c.args.left body.size (code_by ns c.args.arm.now.test c.args.self.now.cell) (flow_in ns body c.args.self.now.cell)
-    (c.requires.there.1.1 c.args.self.now.cell) (grind (arith, c.if-left-eq0.false)) c.in_ok-append_code.ensures.ok c.append_body.ensures.ok
-
 pub append_for_ever-returns-clause-ok : goal.append_for_ever-returns-clause-ok
 append_for_ever-returns-clause-ok t c out =
     let back : FitsSigned w32 c.in_ok-backward.field-0 = search rules in
-    for_ever_on c.push_instr.result c.push_instr.new.piece out c.args.body.now.size _ (flow_in c.args.self.now.fragments.now.nodes.items c.args.body.now c.args.self.now.cell) (c.requires.there.1 c.args.self.now.cell)
-    (to_z-of_z w32 c.in_ok-backward.field-0 back ∙ c.in_ok-backward.ensures) c.in_ok-append_inner.ensures.ok (c.push_instr.ensures.ok c.args.self.now.withs.now)
+    let f = flow_in c.args.self.now.fragments.now.nodes.items c.args.body.now c.args.self.now.cell in
+    let inner = subst (λ (i : ℕ). Appended c.args.piece.now c.append_inner.new.piece c.args.self.now.withs.now (part_at i f)) c.jump_size.ensures c.in_ok-append_inner.ensures.ok in
+    for_ever_on c.push_instr.result c.push_instr.new.piece out c.args.body.now.size _ f (c.requires.there.1 c.args.self.now.cell)
+    (to_z-of_z w32 c.in_ok-backward.field-0 back ∙ c.in_ok-backward.ensures) inner (c.push_instr.ensures.ok c.args.self.now.withs.now)
 
 pub append_form-returns-in-WhileTrue-clause-ok : goal.append_form-returns-in-WhileTrue-clause-ok
 append_form-returns-in-WhileTrue-clause-ok t c =
@@ -127,30 +116,6 @@ append_form-returns-in-Block-clause-ok t c =
     subst (λ (g : FlowForm). OnOk c.append_block.result (Appended c.args.piece.now c.append_block.new.piece c.args.self.now.withs.now (part_at c.args.out (form_in ns g c.args.self.now.cell)))) (sym c.in-Block.is)
     (subst (λ (f : FlowOf). OnOk c.append_block.result (Appended c.args.piece.now c.append_block.new.piece c.args.self.now.withs.now (part_at c.args.out f))) (sym (block_is ns c.in-Block.entries c.args.self.now.cell))
     (rw c.deref.ensures.value at c.append_block.ensures.ok))
-
-pub append_last_body-returns-clause-ok : goal.append_last_body-returns-clause-ok
-append_last_body-returns-clause-ok t c =
-    let ws = c.args.self.now.withs.now in
-    let rest = part_at c.args.out (flow_in c.args.self.now.fragments.now.nodes.items c.args.body.now c.args.self.now.cell) in
-    let over : FitsSigned w32 c.in_ok-forward.field-0 = search rules in
-    then_on c.append_inner.result c.append_inner.new.piece rest (plain (JumpFalse (pos (c.args.body.now.size)) ∷ []) ⨟ rest) (c.in_ok-push_instr.ensures.ok ws)
-    (ap (λ (i : ℤ). (plain (JumpFalse i ∷ []) ⨟ rest) (spot_of c.args.piece.now ws)) (to_z-of_z w32 c.in_ok-forward.field-0 over ∙ c.in_ok-forward.ensures))
-    c.append_inner.ensures.ok
-
-pub append_body-returns-clause-ok : goal.append_body-returns-clause-ok
-append_body-returns-clause-ok t c =
-    let ws = c.args.self.now.withs.now in
-    let f = flow_in c.args.self.now.fragments.now.nodes.items c.args.body.now c.args.self.now.cell in
-    let r = c.push_instr-2.result in
-    let e = c.push_instr-2.new.piece in
-    let last = plain (Jump (pos (c.args.left - 5)) ∷ []) in
-    let rest = part_at (c.args.out + c.args.left) f ⨟ last in
-    let over : FitsSigned w32 c.in_ok-forward.field-0 = search rules in
-    let past : FitsSigned w32 c.in_ok-forward-2.field-0 = search rules in
-    then_on r e rest (plain (JumpFalse (pos (c.args.body.now.size + 5)) ∷ []) ⨟ rest) (c.in_ok-push_instr.ensures.ok ws)
-    (ap (λ (i : ℤ). (plain (JumpFalse i ∷ []) ⨟ rest) (spot_of c.args.piece.now ws)) (to_z-of_z w32 c.in_ok-forward.field-0 over ∙ c.in_ok-forward.ensures ∙ ap pos c.in_ok-size.ensures))
-    (then_on r e last rest c.in_ok-append_inner.ensures.ok (ap (λ (i : ℕ). (part_at i f ⨟ last) (spot_of c.push_instr.new.piece ws)) c.in_ok-sum.ensures)
-    (subst (λ (i : ℤ). OnOk r (Appended c.append_inner.new.piece e ws (plain (Jump i ∷ [])))) (to_z-of_z w32 c.in_ok-forward-2.field-0 past ∙ c.in_ok-forward-2.ensures ∙ ap pos c.saturating_sub.ensures) (c.push_instr-2.ensures.ok ws)))
 
 pub append_arms-loop-arm-preserved : goal.append_arms-loop-arm-preserved
 append_arms-loop-arm-preserved t c =
@@ -236,7 +201,7 @@ append_counted-returns-clause-ok t c =
     let again = c.in_ok-size.ensures in
     let step = c.size-2.ensures c.requires.sound in
     let over : FitsSigned w32 c.in_ok-forward.field-0 = search rules in
-    let behind = behind_body c.in_ok-behind.behind c.in_ok-codes.codes k s c.in_ok-size.field-0 c.size-2.result c.in_ok-behind.ensures c.in_ok-codes.ensures (again 0 somewhere) (step somewhere) in
+    let behind = behind_body c.in_ok-behind.behind c.in_ok-codes.codes k s c.in_ok-size.field-0 c.size-2.result (c.in_ok-behind.ensures ∙ ap (λ (j : ℕ). c.in_ok-codes.codes + (j + j)) c.jump_size-jump.ensures) c.in_ok-codes.ensures (again 0 somewhere) (step somewhere) in
     counted_on c.append_again.result c.append_again.new.piece c.args.out _ n k s _ (code_by ns x.first c.args.self.now.cell) (flow_in ns x.body c.args.self.now.cell) (code_by ns x.again c.args.self.now.cell) (part ns x.step)
     (c.requires.there.1.1 c.args.self.now.cell) (λ at. again c.args.self.now.cell at ∙ sym (again 0 somewhere)) (λ at. step at ∙ sym (step somewhere))
     (c.in_ok-sum-2.ensures ∙ ap (λ (i : ℕ). c.args.out + i) behind)
@@ -250,7 +215,7 @@ append_until-returns-clause-ok t c =
     let n = c.size-test_size.result in
     let back : FitsSigned w32 c.in_ok-backward.field-0 = search rules in
     until_on c.push_instr.result c.push_instr.new.piece c.args.out _ m n _ (flow_in ns c.args.body.now c.args.self.now.cell) (part ns c.args.test)
-    (c.requires.body.1 c.args.self.now.cell) (c.size-test_size.ensures c.requires.sound) (c.in_ok-behind.ensures ∙ ap (λ (i : ℕ). c.args.out + i) c.in_ok-sum.ensures)
+    (c.requires.body.1 c.args.self.now.cell) (c.size-test_size.ensures c.requires.sound) (c.in_ok-behind.ensures ∙ ap (λ (i : ℕ). c.args.out + i) (c.in_ok-sum.ensures ∙ ap (λ (i : ℕ). n + i) c.jump_size.ensures))
     (to_z-of_z w32 c.in_ok-backward.field-0 back ∙ c.in_ok-backward.ensures ∙ ap (λ (i : ℕ). negsuc (i + 4)) c.in_ok-all.ensures)
     c.in_ok-append_inner.ensures.ok c.in_ok-append_all.ensures.ok (c.push_instr.ensures.ok c.args.self.now.withs.now)
 
@@ -271,36 +236,6 @@ append_in_with-returns-clause-ok t c =
     in_with_on c.append_inner.result c.args.piece.now c.append_inner.new.piece w ws c.deref.result.now c.args.out (flow_in c.args.self.now.fragments.now.nodes.items c.args.body.now c.args.self.now.cell)
     (c.deref.ensures.value ∙ c.in_ok-extend_from_slice.ensures.items ∙ ap (λ (l : List With). l ++ ws) (c.in_ok-push.ensures.items ∙ ap (λ (l : List With). l ++ w ∷ []) c.new-inner.ensures.items))
     c.append_inner.ensures.ok
-
-pub append_last_body-returns-in_err-forward-clause-begins : goal.append_last_body-returns-in_err-forward-clause-begins
-append_last_body-returns-in_err-forward-clause-begins t c = Begins-refl c.args.piece.now
-
-pub append_last_body-returns-in_err-push_instr-clause-begins : goal.append_last_body-returns-in_err-push_instr-clause-begins
-append_last_body-returns-in_err-push_instr-clause-begins t c = c.push_instr.ensures.begins
-
-pub append_last_body-returns-clause-begins : goal.append_last_body-returns-clause-begins
-append_last_body-returns-clause-begins t c = Begins-trans c.push_instr.ensures.begins c.append_inner.ensures.begins
-
-pub append_body-returns-in_err-size-clause-begins : goal.append_body-returns-in_err-size-clause-begins
-append_body-returns-in_err-size-clause-begins t c = Begins-refl c.args.piece.now
-
-pub append_body-returns-in_err-forward-clause-begins : goal.append_body-returns-in_err-forward-clause-begins
-append_body-returns-in_err-forward-clause-begins t c = Begins-refl c.args.piece.now
-
-pub append_body-returns-in_err-push_instr-clause-begins : goal.append_body-returns-in_err-push_instr-clause-begins
-append_body-returns-in_err-push_instr-clause-begins t c = c.push_instr.ensures.begins
-
-pub append_body-returns-in_err-sum-clause-begins : goal.append_body-returns-in_err-sum-clause-begins
-append_body-returns-in_err-sum-clause-begins t c = c.push_instr.ensures.begins
-
-pub append_body-returns-in_err-append_inner-clause-begins : goal.append_body-returns-in_err-append_inner-clause-begins
-append_body-returns-in_err-append_inner-clause-begins t c = Begins-trans c.push_instr.ensures.begins c.append_inner.ensures.begins
-
-pub append_body-returns-in_err-forward-2-clause-begins : goal.append_body-returns-in_err-forward-2-clause-begins
-append_body-returns-in_err-forward-2-clause-begins t c = Begins-trans c.push_instr.ensures.begins c.append_inner.ensures.begins
-
-pub append_body-returns-clause-begins : goal.append_body-returns-clause-begins
-append_body-returns-clause-begins t c = Begins-trans (Begins-trans c.push_instr.ensures.begins c.append_inner.ensures.begins) c.push_instr-2.ensures.begins
 
 pub append_while-returns-in_err-behind-clause-begins : goal.append_while-returns-in_err-behind-clause-begins
 append_while-returns-in_err-behind-clause-begins t c = Begins-refl c.args.piece.now
@@ -389,12 +324,6 @@ append_counted-returns-in_err-append_inner-clause-begins t c = Begins-trans (Beg
 pub append_counted-returns-clause-begins : goal.append_counted-returns-clause-begins
 append_counted-returns-clause-begins t c = Begins-trans (Begins-trans (Begins-trans c.append_code.ensures.begins c.push_instr.ensures.begins) c.append_inner.ensures.begins) c.append_again.ensures.begins
 
-pub append_arm-returns-then-left-eq0-clause-begins : goal.append_arm-returns-then-left-eq0-clause-begins
-append_arm-returns-then-left-eq0-clause-begins t c = Begins-trans c.append_code.ensures.begins c.append_last_body.ensures.begins
-
-pub append_arm-returns-else-left-eq0-clause-begins : goal.append_arm-returns-else-left-eq0-clause-begins
-append_arm-returns-else-left-eq0-clause-begins t c = Begins-trans c.append_code.ensures.begins c.append_body.ensures.begins
-
 pub append_block-returns-in_err-append_inner-clause-begins : goal.append_block-returns-in_err-append_inner-clause-begins
 append_block-returns-in_err-append_inner-clause-begins t c = Begins-trans c.loop-entry.invariant.begins c.append_inner.ensures.begins
 
@@ -427,3 +356,38 @@ append_in_with-returns-in_err-extend_from_slice-clause-begins t c = Begins-refl 
 
 pub append_form-returns-in-Nothing-clause-begins : goal.append_form-returns-in-Nothing-clause-begins
 append_form-returns-in-Nothing-clause-begins t c = Begins-refl c.args.piece.now
+
+pub append_arm-returns-then-left-eq0-clause-ok : goal.append_arm-returns-then-left-eq0-clause-ok
+append_arm-returns-then-left-eq0-clause-ok t c =
+    let ns = c.args.self.now.fragments.now.nodes.items in
+    let ws = c.args.self.now.withs.now in
+    let body = c.args.arm.now.body in
+    let f = flow_in ns body c.args.self.now.cell in
+    let rest = part_at c.args.out f in
+    let over : FitsSigned w32 c.in_ok-forward.field-0 = search rules in
+    last_arm c.append_inner.result c.append_inner.new.piece c.args.out c.args.left body.size (code_by ns c.args.arm.now.test c.args.self.now.cell) f
+    (c.requires.there.1.1 c.args.self.now.cell) (grind (arith, c.if-left-eq0.true)) c.in_ok-append_code.ensures.ok
+    (then_on c.append_inner.result c.append_inner.new.piece rest (plain (JumpFalse (pos body.size) ∷ []) ⨟ rest) (c.in_ok-push_instr.ensures.ok ws)
+    (ap (λ (i : ℤ). (plain (JumpFalse i ∷ []) ⨟ rest) (spot_of c.append_code.new.piece ws)) (to_z-of_z w32 c.in_ok-forward.field-0 over ∙ c.in_ok-forward.ensures))
+    c.append_inner.ensures.ok)
+
+pub append_arm-returns-clause-ok : goal.append_arm-returns-clause-ok
+append_arm-returns-clause-ok t c =
+    let ns = c.args.self.now.fragments.now.nodes.items in
+    let ws = c.args.self.now.withs.now in
+    let body = c.args.arm.now.body in
+    let left = c.args.left in
+    let f = flow_in ns body c.args.self.now.cell in
+    let r = c.push_instr-3.result in
+    let e = c.push_instr-3.new.piece in
+    let last = plain (Jump (pos (left - 5)) ∷ []) in
+    let rest = part_at (c.args.out + left) f ⨟ last in
+    let over : FitsSigned w32 c.in_ok-forward-2.field-0 = search rules in
+    let past : FitsSigned w32 c.in_ok-forward-3.field-0 = search rules in
+    let five = c.jump_size-jump.ensures in
+    first_arm r e c.args.out left body.size (code_by ns c.args.arm.now.test c.args.self.now.cell) f
+    (c.requires.there.1.1 c.args.self.now.cell) (grind (arith, c.if-left-eq0.false)) c.in_ok-append_code.ensures.ok
+    (then_on r e rest (plain (JumpFalse (pos (body.size + 5)) ∷ []) ⨟ rest) (c.in_ok-push_instr-2.ensures.ok ws)
+    (ap (λ (i : ℤ). (plain (JumpFalse i ∷ []) ⨟ rest) (spot_of c.append_code.new.piece ws)) (to_z-of_z w32 c.in_ok-forward-2.field-0 over ∙ c.in_ok-forward-2.ensures ∙ ap pos (c.in_ok-size.ensures ∙ ap (λ (i : ℕ). body.size + i) five)))
+    (then_on r e last rest c.in_ok-append_inner.ensures.ok (ap (λ (i : ℕ). (part_at i f ⨟ last) (spot_of c.push_instr-2.new.piece ws)) c.in_ok-sum.ensures)
+    (subst (λ (i : ℤ). OnOk r (Appended c.append_inner-2.new.piece e ws (plain (Jump i ∷ [])))) (to_z-of_z w32 c.in_ok-forward-3.field-0 past ∙ c.in_ok-forward-3.ensures ∙ ap pos (c.saturating_sub.ensures ∙ ap (λ (i : ℕ). left - i) five)) (c.push_instr-3.ensures.ok ws))))

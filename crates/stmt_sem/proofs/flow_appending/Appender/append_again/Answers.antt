@@ -19,7 +19,7 @@ returns-clause-ok c =
     let step : s ≡ c.size.result = c.size.ensures sound somewhere in
     let over : FitsSigned w32 c.in_ok-forward.field-0 = search rules in
     let back : FitsSigned w32 c.in_ok-backward.field-0 = search rules in
-    let skip : c.in_ok-step_size.step_size ≡ s + 5 = c.in_ok-step_size.ensures ∙ ap (λ (i : ℕ). i + 5) (sym step) in
+    let skip : c.in_ok-step_size.step_size ≡ s + 5 = c.in_ok-step_size.ensures ∙ ap (λ (i : ℕ). c.size.result + i) c.jump_size.ensures ∙ ap (λ (i : ℕ). i + 5) (sym step) in
     let all : c.in_ok-all.all ≡ n + k + (s + 5) = c.in_ok-all.ensures ∙ ap (λ (i : ℕ). i + c.in_ok-step_size.step_size) (c.in_ok-sum.ensures ∙ ap (λ (i : ℕ). n + i) (sym again)) ∙ ap (λ (i : ℕ). n + k + i) skip in
     again_on c.push_instr-2.result c.push_instr-2.new.piece n k s _ _ (code_by ns c.args.again.now c.args.self.now.cell) (part ns c.args.step)
     (to_z-of_z w32 c.in_ok-forward.field-0 over ∙ c.in_ok-forward.ensures ∙ ap pos skip)

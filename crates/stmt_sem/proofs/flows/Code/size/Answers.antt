@@ -22,23 +22,29 @@ pub returns-in-Stored : goal.returns-in-Stored
 returns-in-Stored c =
     let ns = c.args.fragments.now.nodes.items in
     let f = c.in-Stored.fragment in
-    let n = c.size-in-Stored.result in
+    let n = c.size-in-Stored-3.result in
+    let around = c.size-in-Stored.result + c.size-in-Stored-2.result in
+    let a : c.size-in-Stored.result ≡ 9 = c.size-in-Stored.ensures.size in
+    let b : c.size-in-Stored-2.result ≡ 1 = c.size-in-Stored-2.ensures.size in
     subst (λ (d : Code). IfOk c.sum.result (λ k. MeasuresPart (code_by ns d) k)) (sym c.in-Stored.is)
-    (if_ok (λ k. k ≡ n + 10) (λ k. MeasuresPart (λ t. plain (Local 0 t ∷ []) ⨟ part ns f ⨟ plain (Store ∷ [])) k) c.sum.result c.sum.ensures
-    (λ k e. subst (λ (j : ℕ). MeasuresPart (λ t. plain (Local 0 t ∷ []) ⨟ part ns f ⨟ plain (Store ∷ [])) j) (sym e) (stored_sized ns f n (c.size-in-Stored.ensures c.requires.sound))))
+    (if_ok (λ k. k ≡ n + around) (λ k. MeasuresPart (λ t. plain (Local 0 t ∷ []) ⨟ part ns f ⨟ plain (Store ∷ [])) k) c.sum.result c.sum.ensures
+    (λ k e. subst (λ (j : ℕ). MeasuresPart (λ t. plain (Local 0 t ∷ []) ⨟ part ns f ⨟ plain (Store ∷ [])) j) (omega (arith, e, a, b)) (stored_sized ns f n (c.size-in-Stored-3.ensures c.requires.sound))))
 
 pub returns-in_ok-compared-in-Compared : goal.returns-in_ok-compared-in-Compared
 returns-in_ok-compared-in-Compared c =
     let ns = c.args.fragments.now.nodes.items in
     let f = c.in-Compared.fragment in
     let i = c.in-Compared.instr in
-    let n = c.size-in-Compared.result in
-    let m = c.size-in-Compared-2.result in
+    let n = c.size-in-Compared-4.result in
+    let m = c.size-in-Compared-5.result in
+    let a : c.size-in-Compared.result ≡ 1 = c.size-in-Compared.ensures.size in
+    let b : c.size-in-Compared-2.result ≡ 9 = c.size-in-Compared-2.ensures.size in
+    let d : c.size-in-Compared-3.result ≡ 1 = c.size-in-Compared-3.ensures.size in
     let before = c.in_ok-compared-in-Compared.ensures in
-    let is_size : m ≡ size (plain_step i).instr = c.size-in-Compared-2.ensures ∙ ap (λ (s : Step). size s.instr) c.plain.ensures in
+    let is_size : m ≡ size (plain_step i).instr = c.size-in-Compared-5.ensures ∙ ap (λ (s : Step). size s.instr) c.plain.ensures in
     subst (λ (d : Code). IfOk c.sum-in-Compared-2.result (λ k. MeasuresPart (code_by ns d) k)) (sym c.in-Compared.is)
     (if_ok (λ k. k ≡ c.in_ok-compared-in-Compared.compared + m) (λ k. MeasuresPart (λ t. part ns f ⨟ plain (Load ∷ Local 0 t ∷ Load ∷ i ∷ [])) k) c.sum-in-Compared-2.result c.sum-in-Compared-2.ensures
-    (λ k e. subst (λ (j : ℕ). MeasuresPart (λ t. part ns f ⨟ plain (Load ∷ Local 0 t ∷ Load ∷ i ∷ [])) j) (omega (arith, e, before)) (compared_sized ns f i n m (c.size-in-Compared.ensures c.requires.sound) is_size)))
+    (λ k e. subst (λ (j : ℕ). MeasuresPart (λ t. part ns f ⨟ plain (Load ∷ Local 0 t ∷ Load ∷ i ∷ [])) j) (omega (arith, e, before, a, b, d)) (compared_sized ns f i n m (c.size-in-Compared-4.ensures c.requires.sound) is_size)))
 
 pub returns-in-Labels : goal.returns-in-Labels
 returns-in-Labels c =

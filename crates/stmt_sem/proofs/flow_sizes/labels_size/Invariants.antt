@@ -1,6 +1,6 @@
 use Rattle.std.proofs.Common.{◌≡◌, ◌+◌, drop}
 use Rattle.stmt_sem.specs.FlowSizes.{labels_bytes}
-use Rattle.stmt_sem.proofs.flow_sizes.all_labels_size.Given as goal
+use Rattle.stmt_sem.proofs.flow_sizes.labels_size.Given as goal
 
 -- the bytes so far and those that are left are all
 abbrev pub invariant-loop-label : goal.invariant-loop-label

@@ -2,8 +2,8 @@ use Rattle.std.proofs.Common.{◌≡◌, [], drop, map}
 use Rattle.decl_sem.specs.Effects.{copy_view}
 use Rattle.expr_sem.specs.Stacks.{ends_as}
 use Rattle.stmt_sem.specs.BlockCode.{prologue}
-use Rattle.stmt_sem.proofs.block_pieces.append_copies.Given as goal
+use Rattle.stmt_sem.proofs.block_pieces.begun.Given as goal
 
 -- with the copies that are left, the piece is as if all were appended
 abbrev pub invariant-loop-copy : goal.invariant-loop-copy
-invariant-loop-copy l = ends_as l.piece [] (prologue (map copy_view (drop l.copy-index l.copies))) ≡ ends_as l.fn.piece [] (prologue (map copy_view l.copies))
+invariant-loop-copy l = ends_as l.piece [] (prologue (map copy_view (drop l.copy-index l.copies))) ≡ ends_as l.initial.piece [] (prologue (map copy_view l.copies))
