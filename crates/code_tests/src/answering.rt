@@ -23,7 +23,7 @@ use std::fmt::Write;
 use std::test::Fail;
 
 /// What is asked of a tree.
-#[derive(Clone, Copy, Debug, PartialEq, Eq)]
+#[derive(Clone, Copy)]
 pub(crate) enum Question {
     Value,
     Address,

@@ -34,7 +34,7 @@ pub const MOST_OBJECT_BYTES: u32 = 67_108_864;
 pub const MOST_TIMES: u32 = 100_000_000;
 
 /// What to run. A text or an object has about as many bytes, and a stream as many tokens, as the number says.
-#[derive(Clone, Copy, Debug, PartialEq, Eq)]
+#[derive(Clone, Copy)]
 pub enum Command {
     Counts,
     Lex(Kind, u32),

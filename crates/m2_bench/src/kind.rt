@@ -6,7 +6,7 @@ use std::str::FromStr;
 
 /// What a text is made of. Each is made of pieces that are numbered from 0,
 /// and the last is cut off where the text ends.
-#[derive(Clone, Copy, Debug, PartialEq, Eq)]
+#[derive(Clone, Copy)]
 pub enum Kind {
     /// Procedures in ordinary layout, with 201 different names.
     Ordinary,
@@ -89,7 +89,7 @@ fn push_procedure(text: &mut String, number: u32) -> Result<(), AllocError> {
 }
 
 /// A word that names no kind.
-#[derive(Clone, Copy, Debug, PartialEq, Eq)]
+#[derive(Clone, Copy)]
 pub struct UnknownKind;
 
 impl FromStr for Kind {

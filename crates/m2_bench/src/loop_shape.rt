@@ -8,7 +8,7 @@ use std::fmt;
 use std::str::FromStr;
 
 /// What a loop does.
-#[derive(Clone, Copy, Debug, PartialEq, Eq)]
+#[derive(Clone, Copy)]
 pub enum LoopShape {
     /// Adds a constant to a variable.
     Add,

@@ -6,7 +6,7 @@ use std::fmt::Write;
 use std::str::FromStr;
 
 /// What a module is made of.
-#[derive(Clone, Copy, Debug, PartialEq, Eq)]
+#[derive(Clone, Copy)]
 pub enum ModuleShape {
     /// Variables, and an assignment to each. It is measured by its bytes.
     Assignments,

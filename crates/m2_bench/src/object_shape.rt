@@ -8,7 +8,7 @@ use std::fmt;
 use std::str::FromStr;
 
 /// How the code of an object stands in its procedures.
-#[derive(Clone, Copy, Debug, PartialEq, Eq)]
+#[derive(Clone, Copy)]
 pub enum ObjectShape {
     /// Procedures of ten statements, none within another.
     Flat,

@@ -5,7 +5,7 @@ use std::fmt;
 use std::str::FromStr;
 
 /// What a module is made of: one piece, again and again.
-#[derive(Clone, Copy, Debug, PartialEq, Eq)]
+#[derive(Clone, Copy)]
 pub enum Shape {
     /// Assignments.
     Statements,
@@ -164,7 +164,7 @@ fn push_kinds(tokens: &mut Vec<Token>, kinds: &[TokenKind]) -> Result<(), AllocE
 }
 
 /// A word that names no shape.
-#[derive(Clone, Copy, Debug, PartialEq, Eq)]
+#[derive(Clone, Copy)]
 pub struct UnknownShape;
 
 impl FromStr for Shape {

@@ -34,7 +34,7 @@ const MOST_PROCEDURES: u32 = 16_384;
 const MOST_WORKERS: u32 = 64;
 
 /// Who makes the turns.
-#[derive(Clone, Copy, Debug, PartialEq, Eq)]
+#[derive(Clone, Copy)]
 pub enum Makers {
     /// One thread, in the order of the streams.
     OneThread,

@@ -9,7 +9,7 @@ pub const USAGE: &str =
 pub const MOST_ROWS: u32 = 4_194_304;
 
 /// What to run.
-#[derive(Clone, Copy, Debug, PartialEq, Eq)]
+#[derive(Clone, Copy)]
 pub enum Command {
     Counts,
     /// A part, with so many rows.

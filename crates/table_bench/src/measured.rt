@@ -3,7 +3,7 @@ use std::fmt;
 use std::time::Duration;
 
 /// What a part did with its rows.
-#[derive(Clone, Copy, Debug, PartialEq, Eq)]
+#[derive(Clone, Copy)]
 pub struct Counts {
     pub rows: u32,
     /// How many of their names were found.

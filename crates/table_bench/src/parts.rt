@@ -20,7 +20,7 @@ use table_samples::{FIRST_NAME, Filler, Opened, Reader, open, unit};
 const SCOPE: u32 = 1;
 
 /// What is timed.
-#[derive(Clone, Copy, Debug, PartialEq, Eq)]
+#[derive(Clone, Copy)]
 pub enum Part {
     /// Rows without names are put.
     Store,
@@ -66,7 +66,7 @@ impl fmt::Display for Part {
 }
 
 /// A word that names no part.
-#[derive(Clone, Copy, Debug, PartialEq, Eq)]
+#[derive(Clone, Copy)]
 pub struct UnknownPart;
 
 impl FromStr for Part {
