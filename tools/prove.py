@@ -4,15 +4,14 @@
 usage: prove.py [NAME]
 
 Each crate is proved in a room of its own (rooms.py) over the libraries below it, by `rt lib`, and a program by `rt
-run` without words. What is made goes into the crate's out/, as if rt had run there. So a second start goes on where
-the first stopped, also within a crate. There are as many checks at a time as there are processors and memory, about 3
-GB each; where fewer crates are ready, the processors that are left are jobs of those in work. A crate that took a
-while has a line when it ends. The first that fails ends the run with a line that names its log, out/prove/NAME.log,
-and status 70. Ctrl-C ends all checks and keeps what they proved.
+run` without words. The libraries hold statements alone (rt_once.py) and go into the crates' out/statements; a program
+goes into its out/, as if rt had run there. A second start goes on with the crates that weren't done. Crates with nearly
+the longest chain of others above them get all processors that they can use; beside them others are proved, with one job
+each, while there are processors and memory, about 3 GB a check. A crate that took a while has a line when it ends. The
+first that fails ends the run with a line that names its log, out/prove/NAME.log, and status 70. Ctrl-C ends all checks.
 """
 import ctypes
 import os
-import re
 import shutil
 import signal
 import subprocess
@@ -25,14 +24,20 @@ GB = 1 << 30
 # What a check takes of memory, and each job of it beyond the first.
 CHECK, JOB = 3 * GB, 3 * GB // 2
 MOST_JOBS = 4
-# A check with more seconds ahead of it than this is worth a new start with more jobs.
-LONG = 300
+# One job for so many lines of code: each copy of the checker reads what lies below anew. That takes as long as some
+# lines do for each crate below.
+LINES_OF_JOB = 500
+LINES_OF_CRATE_BELOW = 30
+# A crate is urgent where the chain of crates from it on has at least this share of the longest chain that is left.
+URGENT = 0.7
+# By how much the other checks yield.
+NICE = 10
 # A crate that was built before ends within so many seconds, without a line.
 QUICK = 5
 # What all crates keep in their out/ on disk.
 DISK = 10 * GB
 LOGS = f"{rooms.ROOT}/out/prove"
-# rt, which sums up texts once.
+# rt as it is best in a room.
 RT = f"{rooms.ROOT}/tools/rt_once.py"
 FAILED = 70
 # The death of its parent ends a child by this signal (prctl).
@@ -74,14 +79,15 @@ def memory():
 class Check:
     """A crate's check in its room."""
 
-    def __init__(self, shelf, name, jobs):
+    def __init__(self, shelf, name, jobs, is_urgent):
         self.name, self.jobs, self.began = name, jobs, time.monotonic()
         folder = shelf.open(name)
         shelf.lend(name)
         words = [sys.executable, RT, "run" if rooms.is_program(name) else "lib", "--jobs", str(jobs)]
         how = {"stdin": subprocess.DEVNULL, "stderr": subprocess.STDOUT, "start_new_session": True}
+        how["preexec_fn"] = die_with_parent if is_urgent else die_and_yield
         with open(log_of(name), "w", encoding="utf-8") as log:
-            self.process = subprocess.Popen(words, cwd=folder, stdout=log, preexec_fn=die_with_parent, **how)
+            self.process = subprocess.Popen(words, cwd=folder, stdout=log, **how)
 
     def needs(self):
         return CHECK + (self.jobs - 1) * JOB
@@ -98,16 +104,6 @@ class Check:
         with open(log_of(self.name), encoding="utf-8", errors="replace") as log:
             return any(line.startswith("rt: running ") for line in log)
 
-    def ahead(self):
-        """How many seconds it is likely to take yet, by the functions that its log counts, or 0 if there are none."""
-        with open(log_of(self.name), encoding="utf-8", errors="replace") as log:
-            counts = [re.match(r"so far: ([1-9]\d*) of (\d+) functions", line) for line in log]
-        told = [it for it in counts if it]
-        if not told:
-            return 0
-        done, whole = int(told[-1][1]), int(told[-1][2])
-        return (time.monotonic() - self.began) * (whole - done) / done
-
     def was_killed(self):
         """Whether the system killed it, most likely for memory."""
         return self.process.returncode in (-signal.SIGKILL, 256 - signal.SIGKILL)
@@ -121,6 +117,18 @@ def die_with_parent():
     LIBC.prctl(PR_SET_PDEATHSIG, signal.SIGTERM)
 
 
+def die_and_yield():
+    """As die_with_parent, and leaves the processors to the urgent checks."""
+    die_with_parent()
+    os.nice(NICE)
+    try:
+        # (where a session is a group of the scheduler, processes of different ones yield by this alone)
+        with open("/proc/self/autogroup", "w", encoding="utf-8") as file:
+            file.write(str(NICE))
+    except OSError:
+        pass
+
+
 class Run:
     """The crates that are left, in work and proved."""
 
@@ -130,45 +138,31 @@ class Run:
         # crates that were killed beside others, and are to run alone
         self.alone = set()
         lines = {it: rooms.lines_of(it) for it in names}
-        self.behind = {}
+        self.most_jobs = {it: max(1, min(lines[it] // LINES_OF_JOB, MOST_JOBS, self.processors)) for it in names}
+        # the work on a crate, with that on the longest chain of crates above it
+        self.chain = {}
         for name in reversed(names):
-            above = [self.behind[it] for it in names if name in rooms.below(it)]
-            self.behind[name] = lines[name] + max(above, default=0)
+            above = max((self.chain[it] for it in names if name in rooms.uses(it)), default=0)
+            self.chain[name] = lines[name] + LINES_OF_CRATE_BELOW * len(rooms.below(name)) + above
 
     def ready(self):
         """The crates that can begin, with the longest chain first."""
         found = [it for it in self.left if all(one in self.proved for one in rooms.below(it))]
-        return sorted(found, key=lambda it: -self.behind[it])
-
-    def idle(self):
-        """How many processors have no job, and how much memory no check needs."""
-        return self.processors - sum(it.jobs for it in self.checks), self.memory - sum(it.needs() for it in self.checks)
+        return sorted(found, key=lambda it: -self.chain[it])
 
     def start(self):
-        """Starts what processors and memory have room for."""
-        ready = self.ready()
-        for at, name in enumerate(ready):
-            idle, room = self.idle()
-            if self.checks and (idle < 1 or room < CHECK or self.alone & {name, *(it.name for it in self.checks)}):
+        """Starts what memory has room for: urgent crates, and one job of another for each idle processor."""
+        longest = max((self.chain[it] for it in self.names if it not in self.proved), default=0)
+        for name in self.ready():
+            idle = self.processors - sum(it.jobs for it in self.checks)
+            room = self.memory - sum(it.needs() for it in self.checks)
+            if self.checks and (room < CHECK or self.alone & {name, *(it.name for it in self.checks)}):
                 return
-            jobs = max(1, min(idle // (len(ready) - at), MOST_JOBS, 1 + (room - CHECK) // JOB))
-            self.left.remove(name)
-            self.checks.append(Check(self.shelf, name, 1 if name in self.alone else jobs))
-
-    def widen(self):
-        """Where no crate is ready, gives the idle processors to a check that is long yet: it goes on with more jobs."""
-        idle, room = self.idle()
-        more = min(idle, room // JOB)
-        if more < 1 or self.ready():
-            return
-        for check in sorted(self.checks, key=lambda it: -self.behind[it.name]):
-            jobs = min(check.jobs + more, MOST_JOBS)
-            if jobs > check.jobs and check.name not in self.alone and check.ahead() > LONG:
-                check.end()
-                self.checks.remove(check)
-                self.shelf.give_back(check.name)
-                self.checks.append(Check(self.shelf, check.name, jobs))
-                return
+            is_urgent = self.chain[name] >= URGENT * longest
+            if is_urgent or idle > 0:
+                jobs = self.most_jobs[name] if is_urgent and name not in self.alone else 1
+                self.left.remove(name)
+                self.checks.append(Check(self.shelf, name, max(1, min(jobs, 1 + (room - CHECK) // JOB)), is_urgent))
 
     def finish(self, check):
         """Takes what a check that ended has made. One that was killed beside others begins once more, alone."""
@@ -190,7 +184,6 @@ class Run:
         try:
             while self.left or self.checks:
                 self.start()
-                self.widen()
                 time.sleep(0.5)
                 for check in [it for it in self.checks if it.process.poll() is not None]:
                     self.finish(check)
@@ -219,7 +212,7 @@ def main():
     left = shutil.disk_usage(LOGS).free
     if left < DISK:
         say(f"note: {left // GB} GB of disk are left, and a start from nothing takes about {DISK // GB}")
-    shelf = rooms.Rooms("prove")
+    shelf = rooms.Rooms("prove", "statements")
     with rooms.held(names):
         shelf.recover()
         with shelf:

@@ -7,6 +7,7 @@ and not by where it lies.
 """
 import contextlib
 import fcntl
+import functools
 import hashlib
 import os
 import shutil
@@ -32,12 +33,13 @@ def uses(name):
     return [it for it in ROWS[name].partition(":")[2].replace(",", " ").split() if it in ROWS]
 
 
+@functools.cache
 def below(name):
     """The crates below this one, each after those that it uses."""
     found = []
     for it in uses(name):
         found += [one for one in [*below(it), it] if one not in found]
-    return found
+    return tuple(found)
 
 
 def folder_of(name):
@@ -57,8 +59,9 @@ def files_of(name):
 
 
 def lines_of(name):
-    """How many lines the crate has, with its definitions and proofs."""
-    return sum(open(it, "rb").read().count(b"\n") for it in files_of(name))
+    """How many lines of code the crate has, without its definitions and proofs."""
+    code = os.path.join(folder_of(name), "src", "")
+    return sum(open(it, "rb").read().count(b"\n") for it in files_of(name) if it.startswith(code))
 
 
 def sum_of(names, more=()):
@@ -100,11 +103,6 @@ def move(path, to):
         os.rename(f"{to}.part", to)
 
 
-def is_built(name):
-    """Whether a library of the crate stands in its out/, maybe of an older text."""
-    return os.path.isfile(f"{folder_of(name)}/out/rlib/stamp")
-
-
 @contextlib.contextmanager
 def held(names):
     """Holds the crates' folders as rt does, so that no rt works in them meanwhile."""
@@ -132,9 +130,11 @@ def on_disk(folder):
 
 class Rooms:
     """The rooms of one use. Their folder lies outside the checkout, whose every file the gate looks at, and on the same
-    disk, if there is such a place."""
+    disk, if there is such a place. The folder of a crate's library, rlib in a room, may have another name in the
+    checkout, for libraries that are not as rt makes them there."""
 
-    def __init__(self, use):
+    def __init__(self, use, libraries="rlib"):
+        self.libraries = libraries
         cache = os.environ.get("XDG_CACHE_HOME") or os.path.expanduser("~/.cache")
         places = (tempfile.gettempdir(), cache, os.path.dirname(ROOT))
         place = next((it for it in places if is_ours(it) and on_disk(it) == on_disk(ROOT)), tempfile.gettempdir())
@@ -172,8 +172,9 @@ class Rooms:
         room = f"{self.folder}/{name}"
         for it in [*below(name), name]:
             shutil.copytree(self.sources(it), f"{room}/crates/{it}", copy_function=link)
-            if it != name and is_built(it):
-                shutil.copytree(f"{folder_of(it)}/out/rlib", f"{room}/crates/{it}/out/rlib", copy_function=link)
+            library = f"{folder_of(it)}/out/{self.libraries}"
+            if it != name and os.path.isfile(f"{library}/stamp"):
+                shutil.copytree(library, f"{room}/crates/{it}/out/rlib", copy_function=link)
         with open(f"{room}/crates.txt", "w", encoding="utf-8") as file:
             file.writelines(f"{ROWS[it]}\n" for it in [*below(name), name])
         if os.path.isfile(f"{ROOT}/HANDLES"):
@@ -185,12 +186,15 @@ class Rooms:
         """Moves what the crate's out/ has to its room."""
         out = f"{folder_of(name)}/out"
         for it in os.listdir(out) if os.path.isdir(out) else ():
-            move(f"{out}/{it}", f"{self.out(name)}/{it}")
+            if it == self.libraries:
+                move(f"{out}/{it}", f"{self.out(name)}/rlib")
+            elif it != "rlib":
+                move(f"{out}/{it}", f"{self.out(name)}/{it}")
 
     def give_back(self, name):
         """Moves what the room's out/ has to the crate's own, and removes the room."""
         out = f"{folder_of(name)}/out"
         os.makedirs(out, exist_ok=True)
         for it in os.listdir(self.out(name)):
-            move(f"{self.out(name)}/{it}", f"{out}/{it}")
+            move(f"{self.out(name)}/{it}", f"{out}/{self.libraries if it == 'rlib' else it}")
         clear(f"{self.folder}/{name}")

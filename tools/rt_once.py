@@ -1,12 +1,17 @@
 #!/usr/bin/env python3
-"""Runs rt with these words, and has it sum up each crate's texts once.
+"""Runs rt with these words, as it is best in a room (rooms.py).
 
 usage: rt_once.py WORD..    as rt WORD..
 
-Before it builds a library rt sums up its texts and those of the libraries that it names, and of each of these again those
-that it names, along every way through crates.txt: for m2c_main that is reading some crate's texts 2,700 times, which
-takes minutes. In a room (rooms.py) nobody changes a text meanwhile, so that one sum of each crate serves. Where the
-kit's rt isn't as this expects it, it runs as it is.
+Each crate's texts are summed up once. Before it builds a library rt sums up its texts and those of the libraries that
+it names, and of each of these again those that it names, along every way through crates.txt: for m2c_main that is
+reading some crate's texts 2,700 times, which takes minutes. In a room nobody changes a text meanwhile.
+
+And libraries hold their statements, without proofs, as where `rt verdict` and `rt ci` prove a crate over them: then the
+checker doesn't read all that was proved below, over and over. Such a library is proved in one go, with nothing kept of
+a part, and fits only the libraries that it was built over.
+
+Where the kit's rt isn't as this expects it, it runs as it is.
 """
 import importlib.machinery
 import importlib.util
@@ -36,12 +41,30 @@ def sum_once(crate):
     crate.stamp = stamp
 
 
+def cut_libraries(crate):
+    """Has a crate of rt build a library of its statements, and take one that stands there for such a one."""
+    built = crate.build_rlib
+
+    def build_rlib(self, flags, anew):
+        if not anew and self.is_built():
+            return 0
+        self.cuts_libraries = True
+        status = built(self, flags, anew=True)
+        if not status:
+            with open(f"{os.path.dirname(self.rlib)}/stamp", "w", encoding="utf-8") as file:
+                file.write(self.stamp())
+        return status
+
+    crate.build_rlib = build_rlib
+
+
 def main():
     path, words = os.path.realpath(shutil.which("rt")), sys.argv[1:]
     sys.dont_write_bytecode = True
     try:
         rt = loaded(path)
         sum_once(rt.rtlib.Crate)
+        cut_libraries(rt.rtlib.Crate)
         run = rt.main
     except (AttributeError, OSError, SyntaxError):
         os.execv(path, ["rt", *words])
