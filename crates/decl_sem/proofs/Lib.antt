@@ -23,7 +23,6 @@ pub mod ImportedNames
 pub mod ImportedScopes
 pub mod ItemBeginnings
 pub mod ItemEffects
-pub mod ItemPlaces
 pub mod ItemShapes
 pub mod LaidOnce
 pub mod LayoutSteps

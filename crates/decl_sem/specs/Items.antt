@@ -31,13 +31,6 @@ item_view (Heading h) = heading_item (heading_view h.now)
 item_view (Import from name) = import_item from.now name
 item_view (Declaration d) = decl_item (decl_view d.now)
 
--- this is the item of a block that has so many items before it
-pub record IsItemAt (stream : Stream) (k : ℕ) (x : items.Item) : Type 0 where
-  pub before : List items.Item
-  pub rest : List items.Item
-  pub items : items_of stream ≡ before ++ x ∷ rest
-  pub count : length before ≡ k
-
 -- the next free cell is one, and the type of the result, if there is one, stands before the row with this ordinal
 pub record IsEffect (f : Frame) (next : ℕ) (e : Effect) : Type 0 where
   pub cell : e.cell ≤ most_cells + 1

@@ -1,5 +1,5 @@
 //! Layouts of small blocks, calculated outside.
-use decl_sem::{Item, block_items, layout};
+use decl_sem::layout;
 use m2_base::{
     Decl, Expr, ExprForm, FieldList, Heading, Ident, Import, Layout, Qual, Section, Stream,
     StreamKind, TypeExpr, TypeForm,
@@ -176,9 +176,5 @@ fn procedure(rt: HostRuntime) -> Result<(), Fail> {
         (34, 5, 1, 34, 1),
     ];
     compare(&rt, &layout(alloc, &stream)?, &names, &[0, 5, 6]);
-    let items = block_items(alloc, &stream)?;
-    assert_eq!(rt; items.len(), 2);
-    assert!(rt; matches!(items[0], Item::Heading(_)));
-    assert!(rt; matches!(items[1], Item::Declaration(_)));
     Ok(())
 }
