@@ -6,8 +6,8 @@ usage: prove.py [NAME]
 Each crate is proved in a room of its own (rooms.py) over the libraries below it, by `rt lib`, and a program by `rt
 run` without words. The libraries hold statements alone (rt_once.py) and go into the crates' out/statements; a program
 goes into its out/, as if rt had run there. A second start goes on with the crates that weren't done. Crates with nearly
-the longest chain of others above them get all processors that they can use; beside them others are proved, with one job
-each, while there are processors and memory, about 3 GB a check. A crate that took a while has a line when it ends. The
+the longest chain of others above them get all processors that they can use; beside them others are proved while there
+are processors and memory, about 3 GB a check. A crate that took a while has a line when it ends. The
 first that fails ends the run with a line that names its log, out/prove/NAME.log, and status 70. Ctrl-C ends all checks.
 """
 import ctypes
@@ -24,9 +24,9 @@ GB = 1 << 30
 # What a check takes of memory, and each job of it beyond the first.
 CHECK, JOB = 3 * GB, 3 * GB // 2
 MOST_JOBS = 4
-# One job for so many lines of code: each copy of the checker reads what lies below anew. That takes as long as some
-# lines do for each crate below.
+# An urgent crate takes a job from others for so many lines of code.
 LINES_OF_JOB = 500
+# What lies below a crate is read as long as so many lines for each are proved.
 LINES_OF_CRATE_BELOW = 30
 # A crate is urgent where the chain of crates from it on has at least this share of the longest chain that is left.
 URGENT = 0.7
@@ -151,16 +151,18 @@ class Run:
         return sorted(found, key=lambda it: -self.chain[it])
 
     def start(self):
-        """Starts what memory has room for: urgent crates, and one job of another for each idle processor."""
+        """Starts what memory has room for: urgent crates, and others while there are idle processors, which all share."""
         longest = max((self.chain[it] for it in self.names if it not in self.proved), default=0)
-        for name in self.ready():
+        ready = self.ready()
+        for waiting, name in zip(range(len(ready), 0, -1), ready):
             idle = self.processors - sum(it.jobs for it in self.checks)
             room = self.memory - sum(it.needs() for it in self.checks)
             if self.checks and (room < CHECK or self.alone & {name, *(it.name for it in self.checks)}):
                 return
             is_urgent = self.chain[name] >= URGENT * longest
             if is_urgent or idle > 0:
-                jobs = self.most_jobs[name] if is_urgent and name not in self.alone else 1
+                jobs = max(self.most_jobs[name] if is_urgent else 1, min(MOST_JOBS, idle // waiting))
+                jobs = 1 if name in self.alone else jobs
                 self.left.remove(name)
                 self.checks.append(Check(self.shelf, name, max(1, min(jobs, 1 + (room - CHECK) // JOB)), is_urgent))
 
