@@ -8,7 +8,7 @@ ghost use Rattle.m2_base.specs.declared.sites.Site.{Site};
 ghost use Rattle.type_rules.specs.Scenes.{IsThere};
 ghost use Rattle.expr_sem.specs.Coded.{coded};
 ghost use Rattle.expr_sem.specs.Codings.{Coding, IsCoded, coded_in};
-ghost use Rattle.expr_sem.specs.Fragments.{Grows, IsFragmentOf, IsMade};
+ghost use Rattle.expr_sem.specs.Fragments.{IsMade};
 ghost use Rattle.expr_sem.specs.Parts.{Part};
 ghost use Rattle.expr_sem.specs.declared.fragments.Node.{Node};
 
@@ -27,27 +27,6 @@ pub fn variable_at(of: Place, made: Result<Fragment, Memory>) -> Result<Ask<Code
             operand: Operand::Variable(of),
             code,
             high: None,
-        })),
-        Err(memory) => Err(memory),
-    }
-}
-
-/// An open array of this type, with the code of its address, after that of the number of its elements less 1.
-pub fn open_at(
-    of: Place,
-    high: Fragment,
-    made: Result<Fragment, Memory>,
-) -> Result<Ask<Coded>, Memory>
-    ensures { (state : State) (notes : Notes) (s : Site) (from mid to : List Node) (p q : Part)
-        → IsThere state.frame of → Grows from mid → IsFragmentOf mid high q
-        → IsMade mid to made p → Coding state state notes notes from to s result IsCoded coded_in
-        (λ c. gives (record { operand = Variable of; code = p; high = q })) }
-{
-    match made {
-        Ok(code) => Ok(Ask::Known(Coded {
-            operand: Operand::Variable(of),
-            code,
-            high: Some(high),
         })),
         Err(memory) => Err(memory),
     }

@@ -1,5 +1,6 @@
 //! The forms of fragments, appended to a piece one after another.
 ghost use Rattle.std.specs.Prelude.{◌≡◌, ◌+◌, ◌∷◌, [], List, ◌++◌, OnOk, length, map, min, slice_index};
+ghost use Rattle.m2_base.specs.Lists.{IsPrefixOf};
 ghost use Rattle.m2_base.specs.Statics.Cells.{capped};
 ghost use Rattle.expr_sem.specs.Arguments.{string_copy as spec_copy};
 ghost use Rattle.expr_sem.specs.Fragments.{AreSound, IsIn, IsMadeOf, part};
@@ -38,18 +39,16 @@ pub fn push_instr(piece: &mut Piece, instr: Instr) -> Result<(), Memory>
     Ok(())
 }
 
-/// Appends characters with a 0 behind them to the data, unless it would end behind the last byte that it can have.
-fn push_bytes(piece: &mut Piece, characters: &Vec<u8>, last: u32) -> Result<(), Memory>
-    ensures begins { Begins piece.old piece.new }
-    ensures steps { piece.new.steps ≡ piece.old.steps }
-    ensures cell { piece.new.cell ≡ piece.old.cell }
-    ensures byte { piece.new.byte ≡ piece.old.byte }
+/// Appends characters with a 0 behind them to bytes of data, unless they would end behind the last that a block can
+/// have.
+fn push_bytes(bytes: &mut Vec<u8>, characters: &Vec<u8>, last: u32) -> Result<(), Memory>
+    ensures begins { IsPrefixOf bytes.old.items bytes.new.items }
     ensures ok { OnOk result
-        (piece.new.bytes.items ≡ piece.old.bytes.items ++ unless_too_many last (characters.now.items ++ 0 ∷ [])) }
+        (bytes.new.items ≡ bytes.old.items ++ unless_too_many last (characters.now.items ++ 0 ∷ [])) }
 {
     if last < TOO_MANY_CELLS {
-        piece.bytes.extend_from_slice(characters)?;
-        piece.bytes.push(0)?;
+        bytes.extend_from_slice(characters)?;
+        bytes.push(0)?;
     }
     Ok(())
 }
@@ -62,7 +61,7 @@ fn push_text(piece: &mut Piece, characters: &Vec<u8>) -> Result<(), Memory>
 {
     let first = piece.byte;
     let last = capped_sum(first, characters.len() + 1);
-    push_bytes(piece, characters, last)?;
+    push_bytes(&mut piece.bytes, characters, last)?;
     piece.byte = last;
     push_instr(piece, Instr::Str(first))
 }

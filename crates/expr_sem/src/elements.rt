@@ -95,27 +95,9 @@ fn pointed<S: Scopes>(
 }
 
 impl<S: Scopes> Coder<'_, '_, S> {
-    /// What a variable of this type points to. A pointer may lead to a type that is declared later: only statements
-    /// ask for what it points to, and elsewhere the error is that memory is wanted, which comes about in no module.
-    fn of_pointer(&mut self, at: u32, of: Place, code: Fragment) -> Result<Ask<Coded>, Memory>
-        requires suits { SuitsPlace S.state self.old }
-        requires of { IsThere (frame_of S.state self.old) of }
-        requires code { IsIn (nodes_of self.old) code }
-        ensures keeps { Keeps self.old self.new }
-        ensures codes { Codes S.state self.old self.new result IsCoded coded_in
-            (λ c. spec_pointer c at (part (nodes_of self.old) code) of (kind_of c.scene of)) }
-    {
-        if self.site.item.is_some() {
-            return Err(Memory);
-        }
-        let (_, meaning) = asked!(stand(self.scopes, self.site.around, of));
-        match meaning {
-            RowMeaning::Pointer(to) => pointed(self.scopes, self.site, to, code, self.fragments),
-            _ => refused(self.site, at, Diagnostic::NotAPointer, self.notes),
-        }
-    }
-
-    /// What a pointer points to. `first` is the designator's first token, `at` the arrow.
+    /// What a pointer points to. `first` is the designator's first token, `at` the arrow. A pointer may lead to a type
+    /// that is declared later: only statements ask for what it points to, and elsewhere the error is that memory is
+    /// wanted, which comes about in no module.
     pub(crate) fn select_target(
         &mut self,
         first: u32,
@@ -129,7 +111,16 @@ impl<S: Scopes> Coder<'_, '_, S> {
             (λ c. spec_target c first at (coded_in (nodes_of self.old) x)) }
     {
         match x.operand {
-            Operand::Variable(of) => self.of_pointer(at, of, x.code),
+            Operand::Variable(of) => {
+                if self.site.item.is_some() {
+                    return Err(Memory);
+                }
+                let (_, meaning) = asked!(stand(self.scopes, self.site.around, of));
+                let RowMeaning::Pointer(to) = meaning else {
+                    return refused(self.site, at, Diagnostic::NotAPointer, self.notes);
+                };
+                pointed(self.scopes, self.site, to, x.code, self.fragments)
+            }
             Operand::InError => Ok(Ask::Known(Coded::in_error())),
             Operand::NotConstant => Ok(Ask::Known(Coded::in_error())),
             _ => refused(self.site, first, Diagnostic::NotAVariable, self.notes),
@@ -207,51 +198,6 @@ fn extent<S: Scopes>(
 }
 
 impl<S: Scopes> Coder<'_, '_, S> {
-    /// The element of an array that this instruction finds, by its index.
-    fn element_found(
-        &mut self,
-        of: Place,
-        index: Coded,
-        code: Fragment,
-        find: Instr,
-    ) -> Result<Ask<Coded>, Memory>
-        requires suits { SuitsPlace S.state self.old }
-        requires of { IsThere (frame_of S.state self.old) of }
-        requires index { IsCoded (frame_of S.state self.old) (nodes_of self.old) index }
-        requires code { IsIn (nodes_of self.old) code }
-        ensures keeps { Keeps self.old self.new }
-        ensures codes { Codes S.state self.old self.new result IsCoded coded_in (λ c. gives (coded (Variable of)
-            (part (nodes_of self.old) code ⨟ spec_value c (coded_in (nodes_of self.old) index) ⨟ plain (find ∷ [])))) }
-    {
-        let value = analysed!(value_code(self.scopes, self.site, index, self.fragments));
-        variable_at(of, applied(self.fragments, code, value, find))
-    }
-
-    /// The element of an array of these indices.
-    fn array_indexed(
-        &mut self,
-        indices: Place,
-        of: Place,
-        index: Coded,
-        code: Fragment,
-    ) -> Result<Ask<Coded>, Memory>
-        requires suits { SuitsPlace S.state self.old }
-        requires indices { IsThere (frame_of S.state self.old) indices }
-        requires of { IsThere (frame_of S.state self.old) of }
-        requires index { IsCoded (frame_of S.state self.old) (nodes_of self.old) index }
-        requires code { IsIn (nodes_of self.old) code }
-        ensures keeps { Keeps self.old self.new }
-        ensures codes { Codes S.state self.old self.new result IsCoded coded_in (λ c. gives
-            (coded (Variable of) (part (nodes_of self.old) code ⨟ spec_value c (coded_in (nodes_of self.old) index)
-            ⨟ plain (spec_index (spec_range c.scene indices) (spec_size c.scene of) ∷ [])))) }
-    {
-        let found = asked!(extent(self.scopes, self.site.around, indices, of));
-        match index_instr(found.0, found.1) {
-            Ok(find) => self.element_found(of, index, code, find),
-            Err(memory) => Err(memory),
-        }
-    }
-
     /// The element of an array, by its index, unless one of them is in error.
     fn element_of_array(
         &mut self,
@@ -272,7 +218,10 @@ impl<S: Scopes> Coder<'_, '_, S> {
         if asked!(is_spoilt(self.scopes, self.site.around, index.operand, of)) {
             return Ok(Ask::Known(Coded::in_error()));
         }
-        self.array_indexed(indices, of, index, x.code)
+        let (ends, size) = asked!(extent(self.scopes, self.site.around, indices, of));
+        let find = index_instr(ends, size)?;
+        let value = analysed!(value_code(self.scopes, self.site, index, self.fragments));
+        variable_at(of, applied(self.fragments, x.code, value, find))
     }
 }
 
@@ -308,29 +257,6 @@ fn open_code(
     fragments.then(x.code, found)
 }
 
-impl<S: Scopes> Coder<'_, '_, S> {
-    /// The element of an open array whose elements have this size.
-    fn open_found(
-        &mut self,
-        of: Place,
-        size: u32,
-        index: Coded,
-        x: Coded,
-    ) -> Result<Ask<Coded>, Memory>
-        requires suits { SuitsPlace S.state self.old }
-        requires of { IsThere (frame_of S.state self.old) of }
-        requires index { IsCoded (frame_of S.state self.old) (nodes_of self.old) index }
-        requires x { IsCoded (frame_of S.state self.old) (nodes_of self.old) x }
-        ensures keeps { Keeps self.old self.new }
-        ensures codes { Codes S.state self.old self.new result IsCoded coded_in
-            (λ c. gives (coded (Variable of) (part (nodes_of self.old) x.code ⨟ high_in (nodes_of self.old) x.high
-            ⨟ spec_value c (coded_in (nodes_of self.old) index) ⨟ plain (IndexOpen size ∷ [])))) }
-    {
-        let value = analysed!(value_code(self.scopes, self.site, index, self.fragments));
-        variable_at(of, open_code(x, value, size, self.fragments))
-    }
-}
-
 /// How many cells a variable of a type takes, as `Move` and `New` have it: an array or a record as many as its row
 /// says, anything else one. It waits for the row of what the type stands for.
 #[tactic(auto, using(type_rules::proofs::Reading::reading))]
@@ -347,21 +273,6 @@ pub fn cells_of<S: Scopes>(scopes: &mut S, around: &Around, of: Place) -> Ask<u3
 }
 
 impl<S: Scopes> Coder<'_, '_, S> {
-    /// The element of an open array, by its index.
-    fn open_indexed(&mut self, of: Place, index: Coded, x: Coded) -> Result<Ask<Coded>, Memory>
-        requires suits { SuitsPlace S.state self.old }
-        requires of { IsThere (frame_of S.state self.old) of }
-        requires index { IsCoded (frame_of S.state self.old) (nodes_of self.old) index }
-        requires x { IsCoded (frame_of S.state self.old) (nodes_of self.old) x }
-        ensures keeps { Keeps self.old self.new }
-        ensures codes { Codes S.state self.old self.new result IsCoded coded_in
-            (λ c. gives (coded (Variable of) (part (nodes_of self.old) x.code ⨟ high_in (nodes_of self.old) x.high
-            ⨟ spec_value c (coded_in (nodes_of self.old) index) ⨟ plain (IndexOpen (spec_size c.scene of) ∷ [])))) }
-    {
-        let size = asked!(cells_of(self.scopes, self.site.around, of));
-        self.open_found(of, size, index, x)
-    }
-
     /// The element of an open array, by its index, unless one of them is in error.
     fn element_of_open(&mut self, of: Place, index: Coded, x: Coded) -> Result<Ask<Coded>, Memory>
         requires suits { SuitsPlace S.state self.old }
@@ -375,75 +286,14 @@ impl<S: Scopes> Coder<'_, '_, S> {
         if asked!(is_spoilt(self.scopes, self.site.around, index.operand, of)) {
             return Ok(Ask::Known(Coded::in_error()));
         }
-        self.open_indexed(of, index, x)
+        let size = asked!(cells_of(self.scopes, self.site.around, of));
+        let value = analysed!(value_code(self.scopes, self.site, index, self.fragments));
+        variable_at(of, open_code(x, value, size, self.fragments))
     }
 
-    /// The element of an array by an index that its index type takes.
-    fn array_element(
-        &mut self,
-        indices: Place,
-        of: Place,
-        index: Placed,
-        x: Coded,
-    ) -> Result<Ask<Coded>, Memory>
-        requires suits { SuitsPlace S.state self.old }
-        requires indices { IsThere (frame_of S.state self.old) indices }
-        requires of { IsThere (frame_of S.state self.old) of }
-        requires index { IsCoded (frame_of S.state self.old) (nodes_of self.old) index.coded }
-        requires x { IsCoded (frame_of S.state self.old) (nodes_of self.old) x }
-        ensures keeps { Keeps self.old self.new }
-        ensures codes { Codes S.state self.old self.new result IsCoded coded_in
-            (λ c. and_then (spec_assigned c indices index.at not_assignable (coded_in (nodes_of self.old) index.coded))
-            (spec_of_array c (coded_in (nodes_of self.old) x) indices of)) }
-    {
-        let taken = analysed!(self.assigned_to(indices, Diagnostic::NotAssignable, index));
-        self.element_of_array(indices, of, taken, x)
-    }
-
-    /// The element of an open array by an index that a CARDINAL takes.
+    /// The element of an array by one index: the index type takes it, of an open array a CARDINAL. `first` is the
+    /// designator's first token, `at` the bracket.
     #[tactic(auto, using(const_eval::proofs::TypesThere::there))]
-    fn open_element(&mut self, of: Place, index: Placed, x: Coded) -> Result<Ask<Coded>, Memory>
-        requires suits { SuitsPlace S.state self.old }
-        requires of { IsThere (frame_of S.state self.old) of }
-        requires index { IsCoded (frame_of S.state self.old) (nodes_of self.old) index.coded }
-        requires x { IsCoded (frame_of S.state self.old) (nodes_of self.old) x }
-        ensures keeps { Keeps self.old self.new }
-        ensures codes { Codes S.state self.old self.new result IsCoded coded_in
-            (λ c. and_then (spec_assigned c cardinal index.at not_assignable
-            (coded_in (nodes_of self.old) index.coded)) (spec_of_open c (coded_in (nodes_of self.old) x) of)) }
-    {
-        let taken = analysed!(self.assigned_to(CARDINAL, Diagnostic::NotAssignable, index));
-        self.element_of_open(of, taken, x)
-    }
-
-    /// The element of a variable of this type, by its index.
-    fn of_array(
-        &mut self,
-        at: u32,
-        of: Place,
-        index: Placed,
-        x: Coded,
-    ) -> Result<Ask<Coded>, Memory>
-        requires suits { SuitsPlace S.state self.old }
-        requires of { IsThere (frame_of S.state self.old) of }
-        requires index { IsCoded (frame_of S.state self.old) (nodes_of self.old) index.coded }
-        requires x { IsCoded (frame_of S.state self.old) (nodes_of self.old) x }
-        ensures keeps { Keeps self.old self.new }
-        ensures codes { Codes S.state self.old self.new result IsCoded coded_in
-            (λ c. spec_array c at (coded_in (nodes_of self.old) x) index.at (coded_in (nodes_of self.old) index.coded)
-            (kind_of c.scene of)) }
-    {
-        let (_, meaning) = asked!(stand(self.scopes, self.site.around, of));
-        match meaning {
-            RowMeaning::Array(indices, elements, _) => {
-                self.array_element(indices, elements, index, x)
-            }
-            RowMeaning::OpenArray(elements) => self.open_element(elements, index, x),
-            _ => refused(self.site, at, Diagnostic::NotAnArray, self.notes),
-        }
-    }
-
-    /// The element of an array by one index. `first` is the designator's first token, `at` the bracket.
     pub(crate) fn select_element(
         &mut self,
         first: u32,
@@ -459,7 +309,28 @@ impl<S: Scopes> Coder<'_, '_, S> {
             (coded_in (nodes_of self.old) index.coded) (coded_in (nodes_of self.old) x)) }
     {
         match x.operand {
-            Operand::Variable(of) => self.of_array(at, of, index, x),
+            Operand::Variable(of) => {
+                let (_, meaning) = asked!(stand(self.scopes, self.site.around, of));
+                match meaning {
+                    RowMeaning::Array(indices, elements, _) => {
+                        let taken = analysed!(self.assigned_to(
+                            indices,
+                            Diagnostic::NotAssignable,
+                            index
+                        ));
+                        self.element_of_array(indices, elements, taken, x)
+                    }
+                    RowMeaning::OpenArray(elements) => {
+                        let taken = analysed!(self.assigned_to(
+                            CARDINAL,
+                            Diagnostic::NotAssignable,
+                            index
+                        ));
+                        self.element_of_open(elements, taken, x)
+                    }
+                    _ => refused(self.site, at, Diagnostic::NotAnArray, self.notes),
+                }
+            }
             Operand::InError => Ok(Ask::Known(Coded::in_error())),
             Operand::NotConstant => Ok(Ask::Known(Coded::in_error())),
             _ => refused(self.site, first, Diagnostic::NotAVariable, self.notes),

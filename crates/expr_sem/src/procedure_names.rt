@@ -1,21 +1,19 @@
 //! Which procedure the code names where a procedure is called or is a value.
-ghost use Rattle.std.specs.Prelude.{◌≡◌, ◌≢◌, None, option_map};
+ghost use Rattle.std.specs.Prelude.{◌≡◌, option_map};
 ghost use Rattle.std.specs.Option.{IfSome};
 ghost use Rattle.m2_base.specs.Asks.{IfKnown, IfWaits};
 ghost use Rattle.m2_base.specs.Gives.{gives};
 ghost use Rattle.m2_base.specs.States.{Waits};
-ghost use Rattle.m2_base.specs.Statics.Lookup.{entry_in};
 ghost use Rattle.m2_base.specs.declared.notes.Notes.{Notes};
 ghost use Rattle.expr_sem.specs.Codings.{Coding, IsFragment};
 ghost use Rattle.expr_sem.specs.Fragments.{part};
 ghost use Rattle.expr_sem.specs.ProcedureNames.{import_number as spec_import_number, import_of_target as spec_import};
 ghost use Rattle.expr_sem.specs.ProcedureNames.{is_foreign as spec_foreign, is_own as spec_own};
 ghost use Rattle.expr_sem.specs.ProcedureNames.{is_own_definition as spec_own_definition, procedure_code as spec_code};
-ghost use Rattle.expr_sem.specs.ProcedureNames.{target_of_entry as spec_of_entry};
 ghost use Rattle.expr_sem.specs.ProcedureNames.{target_of_procedure as spec_target};
 ghost use Rattle.expr_sem.specs.Targets.{target_view};
-ghost use Rattle.type_rules.specs.Asks.{Reads, WhereKnown, WhereWaiting};
-ghost use Rattle.type_rules.specs.Scenes.{IsThere, WhereTold, block_of, rows_of, scene_of};
+ghost use Rattle.type_rules.specs.Asks.{Reads};
+ghost use Rattle.type_rules.specs.Scenes.{IsThere, WhereTold, block_of, scene_of};
 ghost use Rattle.type_rules.specs.Sites.{SuitsSite};
 
 use crate::answers::answered;
@@ -74,34 +72,10 @@ pub fn import_of_target(around: &Around, target: Target) -> u32
     }
 }
 
-/// The module's own procedure of a name.
-#[tactic(auto, using(type_rules::proofs::Reading::reading))]
-fn own_target<S: Scopes>(scopes: &mut S, site: &Site, name: u32) -> Ask<Option<Target>>
-    requires suits { SuitsSite (S.state scopes.old).frame site.now }
-    requires named { name ≢ 0 }
-    requires statement { site.now.item ≡ None }
-    ensures reads { Reads (S.state scopes.old) (S.state scopes.new) }
-    ensures waits { WhereWaiting result (λ head. Waits (S.state scopes.old) (S.state scopes.new) head) }
-    ensures told { WhereTold (S.state scopes.old).frame (λ made.
-        WhereKnown result (λ given. option_map target_view given
-        ≡ spec_of_entry (entry_in (rows_of (S.state scopes.old).frame made) site.now.around.now.module name))) }
-    ensures there { WhereKnown result
-        (λ given. IfSome given (λ target. IsThere (S.state scopes.old).frame target.of)) }
-{
-    match scopes.search(0, &[site.around.module], name) {
-        Reply::Found(_, row) => match read_row(&row) {
-            RowMeaning::Proc(of, number, _) => Ask::Known(Some(Target { of, number })),
-            _ => Ask::Known(None),
-        },
-        Reply::Absent => Ask::Known(None),
-        Reply::DontKnowYet(head) if head.scope == site.around.scope => Ask::Known(None),
-        Reply::DontKnowYet(head) => Ask::DontKnowYet(head),
-    }
-}
-
 /// The procedure that code names for one of this name. A heading of the own definition is the module's own procedure
 /// of that name, if there is one; any other procedure is itself. Only statements name procedures, and each procedure
 /// has a name: otherwise the error is that memory is wanted, which comes about in no module.
+#[tactic(auto, using(type_rules::proofs::Reading::reading))]
 pub fn target_of_procedure<S: Scopes>(
     scopes: &mut S,
     site: &Site,
@@ -123,7 +97,15 @@ pub fn target_of_procedure<S: Scopes>(
     if name == 0 || site.item.is_some() {
         return Err(Memory);
     }
-    Ok(own_target(scopes, site, name))
+    match scopes.search(0, &[site.around.module], name) {
+        Reply::Found(_, row) => match read_row(&row) {
+            RowMeaning::Proc(of, number, _) => Ok(Ask::Known(Some(Target { of, number }))),
+            _ => Ok(Ask::Known(None)),
+        },
+        Reply::Absent => Ok(Ask::Known(None)),
+        Reply::DontKnowYet(head) if head.scope == site.around.scope => Ok(Ask::Known(None)),
+        Reply::DontKnowYet(head) => Ok(Ask::DontKnowYet(head)),
+    }
 }
 
 /// The code of a procedure as a value. Where the module lacks the procedure, its definition isn't implemented, which

@@ -4,10 +4,9 @@ ghost use Rattle.m2_base.specs.Gives.{and_then, gives};
 ghost use Rattle.const_eval.specs.Sites.{IsOperand};
 ghost use Rattle.expr_sem.specs.Coders.{Codes, Keeps, SuitsPlace, frame_of, nodes_of};
 ghost use Rattle.expr_sem.specs.Codings.{Coding, IsCoded, coded_in};
-ghost use Rattle.expr_sem.specs.StandardProcedures.{element_of_base as spec_element, included as spec_included};
+ghost use Rattle.expr_sem.specs.StandardProcedures.{included as spec_included};
 ghost use Rattle.expr_sem.specs.StandardProcedures.{set_member as spec_member};
 ghost use Rattle.expr_sem.specs.declared.fragments.Node.{Node};
-ghost use Rattle.type_rules.specs.Scenes.{IsThere};
 ghost use Rattle.type_rules.specs.Sites.{SuitsSite};
 
 use crate::coded::{Coded, Placed};
@@ -18,38 +17,10 @@ use crate::updates::{Change, NO_VALUE, either_bad, updated};
 use crate::values::{as_value, in_range};
 use code_form::Instr;
 use const_eval::{compatible_pair, is_broken, set_base};
-use m2_base::{Ask, Builtin, Diagnostic, Memory, Notes, Operand, Place, Scopes, Site};
+use m2_base::{Ask, Builtin, Diagnostic, Memory, Notes, Operand, Scopes, Site};
 use type_rules::operand_type;
 
-/// An element for a set with this base: compatible with it, and a constant in its range.
-fn element_of_base<S: Scopes>(
-    scopes: &mut S,
-    site: &Site,
-    base: Place,
-    v: Placed,
-    notes: &mut Notes,
-) -> Result<Ask<Coded>, Memory>
-    requires suits { SuitsSite (S.state scopes.old).frame site.now }
-    requires base { IsThere (S.state scopes.old).frame base }
-    requires v { IsOperand (S.state scopes.old).frame v.coded.operand }
-    ensures { (nodes : List Node) → IsCoded (S.state scopes.old).frame nodes v.coded
-        → Coding (S.state scopes.old) (S.state scopes.new) notes.old notes.new nodes nodes site.now result IsCoded
-        coded_in (λ c. spec_element c v.at base (coded_in nodes v.coded)) }
-{
-    let broken = asked!(is_broken(scopes, site.around, base));
-    if broken {
-        return Ok(Ask::Known(Coded::in_error()));
-    }
-    match asked!(compatible_pair(scopes, site, v.coded.operand, Operand::Computed(base))) {
-        Some((operand, _)) => {
-            let coded = v.coded.taken(operand);
-            in_range(scopes, site, base, Placed { at: v.at, coded }, notes)
-        }
-        None => refused(site, v.at, Diagnostic::WrongArgument, notes),
-    }
-}
-
-/// The element by which a set is changed.
+/// The element by which a set is changed: compatible with the set's base, and a constant in its range.
 fn set_member<S: Scopes>(
     scopes: &mut S,
     site: &Site,
@@ -69,7 +40,16 @@ fn set_member<S: Scopes>(
         return Ok(Ask::Known(Coded::in_error()));
     }
     let base = asked!(set_base(scopes, site, operand_type(&x.operand)));
-    element_of_base(scopes, site, base, Placed { at: e.at, coded: v }, notes)
+    if asked!(is_broken(scopes, site.around, base)) {
+        return Ok(Ask::Known(Coded::in_error()));
+    }
+    match asked!(compatible_pair(scopes, site, v.operand, Operand::Computed(base))) {
+        Some((operand, _)) => {
+            let coded = v.taken(operand);
+            in_range(scopes, site, base, Placed { at: e.at, coded }, notes)
+        }
+        None => refused(site, e.at, Diagnostic::WrongArgument, notes),
+    }
 }
 
 impl<S: Scopes> Coder<'_, '_, S> {

@@ -12,7 +12,7 @@ ghost use Rattle.type_rules.specs.Scenes.{IsThere, Suits, WhereTold, scene_of};
 ghost use Rattle.type_rules.specs.Sites.{SuitsSite};
 
 use crate::arguments::Parameter;
-use m2_base::{Around, Ask, Memory, Place, Scopes, Site, Texts};
+use m2_base::{Around, Ask, Memory, Place, Scopes, Site};
 use type_rules::{Form, form_of, is_open_array, next_parameter};
 
 /// The parameters and the result of a procedure type.
@@ -42,37 +42,6 @@ impl Signature {
     }
 }
 
-/// The parameters of a procedure type.
-#[tactic(auto, using(type_rules::proofs::Reading::reading))]
-fn parameters_of<S: Scopes>(
-    scopes: &mut S,
-    texts: &Texts,
-    around: &Around,
-    form: Form,
-) -> Result<Ask<Vec<Parameter>>, Memory>
-    requires suits { Suits (S.state scopes.old).frame around.now }
-    requires form { IsFormHere (S.state scopes.old).frame form }
-    ensures reads { Reads (S.state scopes.old) (S.state scopes.new) }
-    ensures waits { IfWaits result (λ head. Waits (S.state scopes.old) (S.state scopes.new) head) }
-    ensures told { WhereTold (S.state scopes.old).frame (λ made.
-        IfKnown result (λ params. map parameter_view params.items
-        ≡ parameters_from (scene_of (S.state scopes.old).frame made around.now) form.of form.first)) }
-    ensures there { IfKnown result (λ params. Each (λ p. IsThere (S.state scopes.old).frame p.of) params.items) }
-{
-    let mut params = Vec::new(*texts.order.allocator());
-    let mut start = form.first;
-    'parameters: loop {
-        match asked!(next_parameter(scopes, around, form.of, start)) {
-            Some(formal) => {
-                let (of, by_ref) = (formal.typ, formal.by_ref);
-                params.push(Parameter { of, by_ref })?;
-                start = formal.next;
-            }
-            None => return Ok(Ask::Known(params)),
-        }
-    }
-}
-
 /// The parameters and the result of a procedure type of this form.
 #[tactic(auto, using(type_rules::proofs::Reading::reading))]
 pub fn signature_by<S: Scopes>(
@@ -89,9 +58,22 @@ pub fn signature_by<S: Scopes>(
         (λ signature. IsSignatureBy (scene_of (S.state scopes.old).frame made site.now.around.now) form signature)) }
     ensures there { IfKnown result (λ signature. IsSignature (S.state scopes.old).frame signature) }
 {
-    let params = analysed!(parameters_of(scopes, site.texts, site.around, form));
-    let result = form.result;
-    Ok(Ask::Known(Signature { params, result }))
+    let texts = site.texts;
+    let mut params = Vec::new(*texts.order.allocator());
+    let mut start = form.first;
+    'parameters: loop {
+        match asked!(next_parameter(scopes, site.around, form.of, start)) {
+            Some(formal) => {
+                let (of, by_ref) = (formal.typ, formal.by_ref);
+                params.push(Parameter { of, by_ref })?;
+                start = formal.next;
+            }
+            None => {
+                let result = form.result;
+                return Ok(Ask::Known(Signature { params, result }));
+            }
+        }
+    }
 }
 
 /// The parameters and the result of a procedure type. What is none has none.

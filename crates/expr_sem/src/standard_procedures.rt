@@ -72,25 +72,6 @@ pub fn of_no_argument(f: Builtin, fragments: &mut Fragments) -> Result<Ask<Coded
 }
 
 impl<S: Scopes> Coder<'_, '_, S> {
-    /// INC or DEC of a variable by 1.
-    fn stepped_by_one(&mut self, f: Builtin, at: u32, x: Coded) -> Result<Ask<Coded>, Memory>
-        requires suits { SuitsPlace S.state self.old }
-        requires x { IsCoded (frame_of S.state self.old) (nodes_of self.old) x }
-        ensures keeps { Keeps self.old self.new }
-        ensures codes { Codes S.state self.old self.new result IsCoded coded_in (λ c.
-            and_then (ordinal_variable c at (coded_in (nodes_of self.old) x)) (λ v. gives (spec_stepped c f v one))) }
-    {
-        let v = analysed!(variable_argument(
-            self.scopes,
-            self.site,
-            Wanted::Ordinal,
-            Placed { at, coded: x },
-            self.notes
-        ));
-        let one = Coded::bare(Operand::Constant(WHOLE, 1));
-        self.stepped(f, v, one)
-    }
-
     /// A standard procedure of one argument.
     pub(crate) fn of_one_argument(
         &mut self,
@@ -105,8 +86,18 @@ impl<S: Scopes> Coder<'_, '_, S> {
             (λ c. spec_one c f at (coded_in (nodes_of self.old) x)) }
     {
         match f {
-            Builtin::Inc => self.stepped_by_one(Builtin::Inc, at, x),
-            Builtin::Dec => self.stepped_by_one(Builtin::Dec, at, x),
+            Builtin::Inc | Builtin::Dec => {
+                let argument = Placed { at, coded: x };
+                let v = analysed!(variable_argument(
+                    self.scopes,
+                    self.site,
+                    Wanted::Ordinal,
+                    argument,
+                    self.notes
+                ));
+                let one = Coded::bare(Operand::Constant(WHOLE, 1));
+                self.stepped(f, v, one)
+            }
             Builtin::New => {
                 let argument = Placed { at, coded: x };
                 let v = analysed!(variable_argument(
@@ -147,28 +138,14 @@ impl<S: Scopes> Coder<'_, '_, S> {
             (λ c. spec_first c f at (coded_in (nodes_of self.old) x)) }
     {
         match f {
-            Builtin::Inc => variable_argument(
+            Builtin::Inc | Builtin::Dec => variable_argument(
                 self.scopes,
                 self.site,
                 Wanted::Ordinal,
                 Placed { at, coded: x },
                 self.notes,
             ),
-            Builtin::Dec => variable_argument(
-                self.scopes,
-                self.site,
-                Wanted::Ordinal,
-                Placed { at, coded: x },
-                self.notes,
-            ),
-            Builtin::Incl => variable_argument(
-                self.scopes,
-                self.site,
-                Wanted::Set,
-                Placed { at, coded: x },
-                self.notes,
-            ),
-            Builtin::Excl => variable_argument(
+            Builtin::Incl | Builtin::Excl => variable_argument(
                 self.scopes,
                 self.site,
                 Wanted::Set,
@@ -177,20 +154,6 @@ impl<S: Scopes> Coder<'_, '_, S> {
             ),
             _ => Ok(Ask::Known(x)),
         }
-    }
-
-    /// INC or DEC of a variable by a number.
-    fn stepped_by_number(&mut self, f: Builtin, x: Coded, n: Placed) -> Result<Ask<Coded>, Memory>
-        requires suits { SuitsPlace S.state self.old }
-        requires x { IsCoded (frame_of S.state self.old) (nodes_of self.old) x }
-        requires n { IsCoded (frame_of S.state self.old) (nodes_of self.old) n.coded }
-        ensures keeps { Keeps self.old self.new }
-        ensures codes { Codes S.state self.old self.new result IsCoded coded_in
-            (λ c. and_then (spec_number c (coded_in (nodes_of self.old) x) n.at (coded_in (nodes_of self.old) n.coded))
-            (λ v. gives (spec_stepped c f (coded_in (nodes_of self.old) x) v))) }
-    {
-        let v = analysed!(step_number(self.scopes, self.site, x, n, self.notes));
-        self.stepped(f, x, v)
     }
 
     /// A standard procedure of two arguments, of which the first is as `first_of_two` gives it; of others nobody asks.
@@ -208,10 +171,11 @@ impl<S: Scopes> Coder<'_, '_, S> {
             spec_two c f x.at (coded_in (nodes_of self.old) x.coded) y.at (coded_in (nodes_of self.old) y.coded)) }
     {
         match f {
-            Builtin::Inc => self.stepped_by_number(Builtin::Inc, x.coded, y),
-            Builtin::Dec => self.stepped_by_number(Builtin::Dec, x.coded, y),
-            Builtin::Incl => self.included(Builtin::Incl, x.coded, y),
-            Builtin::Excl => self.included(Builtin::Excl, x.coded, y),
+            Builtin::Inc | Builtin::Dec => {
+                let number = analysed!(step_number(self.scopes, self.site, x.coded, y, self.notes));
+                self.stepped(f, x.coded, number)
+            }
+            Builtin::Incl | Builtin::Excl => self.included(f, x.coded, y),
             Builtin::Val => {
                 let rule = Rule::Val(Argument {
                     at: x.at,

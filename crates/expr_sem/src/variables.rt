@@ -11,7 +11,7 @@ ghost use Rattle.expr_sem.specs.Codings.{Coding, IsCoded, coded_in};
 ghost use Rattle.expr_sem.specs.Variables.{cell_instr as spec_cell, entry_coded as spec_entry};
 ghost use Rattle.expr_sem.specs.Variables.{links_out as spec_links, with_address as spec_with};
 
-use crate::addressed::{open_at, variable_at};
+use crate::addressed::variable_at;
 use crate::chains::pair;
 use crate::coded::Coded;
 use crate::fragments::Fragments;
@@ -70,7 +70,12 @@ fn with_address(
             };
             let second = cell_instr(site.around, scope, next);
             let high = pair(second, Instr::Load, fragments)?;
-            open_at(of, high, pair(cell, Instr::Load, fragments))
+            let code = pair(cell, Instr::Load, fragments)?;
+            Ok(Ask::Known(Coded {
+                operand,
+                code,
+                high: Some(high),
+            }))
         }
     }
 }

@@ -2,7 +2,7 @@ use Rattle.std.proofs.Common.{◌≡◌, ◌∙◌, ◌∷◌, [], ◌+◌, ℕ,
 use Rattle.std.specs.Prelude.{min}
 use Rattle.code_form.specs.declared.instr.Instr.TheVariants.{Local, Move}
 use Rattle.expr_sem.specs.Parts.{plain, text, ◌⨟◌}
-use Rattle.expr_sem.proofs.PieceParts.{copy_on, then_on}
+use Rattle.expr_sem.proofs.PieceParts.{Begins-trans, copy_on, then_on}
 use Rattle.expr_sem.proofs.appending.push_copy.Goals as goal
 
 pub returns-clause-ok : goal.returns-clause-ok
@@ -19,3 +19,17 @@ returns-clause-ok c = λ ws.
     (then_on r e (text chars ⨟ q) (plain (Local 0 a.cell ∷ []) ⨟ (text chars ⨟ q)) (c.in_ok-push_instr.ensures.ok ws) refl
     (then_on r e q (text chars ⨟ q) (c.in_ok-push_text.ensures.ok ws) refl
     (then_on r e (plain (Local 0 a.cell ∷ [])) q (c.in_ok-push_instr-2.ensures.ok ws) refl (c.push_instr-3.ensures.ok ws))))
+
+pub returns-in_err-push_instr-clause-begins : goal.returns-in_err-push_instr-clause-begins
+returns-in_err-push_instr-clause-begins c = let h = c.push_instr.ensures.begins in record { steps = h.steps; bytes = h.bytes }
+
+pub returns-in_err-push_text-clause-begins : goal.returns-in_err-push_text-clause-begins
+returns-in_err-push_text-clause-begins c = let h = Begins-trans c.push_instr.ensures.begins c.push_text.ensures.begins in record { steps = h.steps; bytes = h.bytes }
+
+pub returns-in_err-push_instr-2-clause-begins : goal.returns-in_err-push_instr-2-clause-begins
+returns-in_err-push_instr-2-clause-begins c =
+    let h = Begins-trans c.push_instr.ensures.begins (Begins-trans c.push_text.ensures.begins c.push_instr-2.ensures.begins) in record { steps = h.steps; bytes = h.bytes }
+
+pub returns-clause-begins : goal.returns-clause-begins
+returns-clause-begins c =
+    let h = Begins-trans c.push_instr.ensures.begins (Begins-trans c.push_text.ensures.begins (Begins-trans c.push_instr-2.ensures.begins c.push_instr-3.ensures.begins)) in record { steps = h.steps; bytes = h.bytes }

@@ -9,7 +9,7 @@ use Rattle.expr_sem.specs.Fragments.{part}
 use Rattle.expr_sem.specs.Parts.{plain, ◌⨟◌}
 use Rattle.expr_sem.specs.Signatures.{IsSignature}
 use Rattle.expr_sem.proofs.Following.{by_question, then_full}
-use Rattle.expr_sem.proofs.Making.{after_question, question_failed}
+use Rattle.expr_sem.proofs.Making.{after_question, question_failed, question_waits}
 use Rattle.expr_sem.proofs.Operating.{value_grown}
 use Rattle.expr_sem.proofs.Selecting.{stays_read}
 use Rattle.expr_sem.proofs.calls.variable_callable.Goals as goal
@@ -38,3 +38,9 @@ returns g c n =
     (λ k. ap (λ (m : ℕ). procedure_call ps (part ms c.in_ok-before.before) (CallVar number m) r 1) c.result_cells.ensures
     ∙ ap (value_called ps r number) before.made.part_is ∙ ap (λ (m : ℕ). value_called ps r m loaded) same))
     (λ made in_hand told. ap (λ (cells : ℕ). gives (value_called ps r cells loaded)) (rw c.deref.ensures.value at (rw c.in-Known.is at c.in-Ok.ensures.told made in_hand told)))
+
+pub returns-in-DontKnowYet : goal.returns-in-DontKnowYet
+returns-in-DontKnowYet g c n = question_waits n _ c.in-Ok.ensures.reads (rw c.in-DontKnowYet.is at c.in-Ok.ensures.waits)
+
+pub returns-in-Err : goal.returns-in-Err
+returns-in-Err g c n = question_failed n _ c.in-Err.ensures.reads _

@@ -9,6 +9,7 @@ use Rattle.expr_sem.specs.Coded.{in_error}
 use Rattle.expr_sem.specs.Fragments.{part}
 use Rattle.expr_sem.proofs.Making.{after_question, question_waits}
 use Rattle.expr_sem.proofs.Selecting.{error_alone, pointed_broken, pointed_whole, stays_read}
+use Rattle.type_rules.proofs.Later.{Suits_read}
 use Rattle.expr_sem.proofs.elements.pointed.Goals as goal
 
 pub returns-in-DontKnowYet-is_broken : goal.returns-in-DontKnowYet-is_broken
@@ -35,3 +36,9 @@ returns g c notes =
     after_question c.variable_at.result reads
     (c.variable_at.ensures (g.S.Scopes.state c.is_broken.new.scopes) notes c.args.site.now _ _ _ (stays_read (λ e. IsThere e c.in-Known.value) reads c.in-Known.ensures.there) c.target_code.ensures)
     (λ made in_hand told. pointed_whole (scene_of f made a) (part c.args.fragments.now.nodes.items c.args.code) c.in-Known.value _ (sym c.if-value.false ∙ broken made in_hand told) (c.in-Known.ensures.told made in_hand told))
+
+pub is_broken-requires-clause-suits : goal.is_broken-requires-clause-suits
+is_broken-requires-clause-suits g c = Suits_read c.target_named.ensures.reads c.requires.suits.around
+
+pub returns-in-DontKnowYet : goal.returns-in-DontKnowYet
+returns-in-DontKnowYet g c notes = question_waits notes _ c.target_named.ensures.reads c.in-DontKnowYet.ensures.waits

@@ -7,7 +7,7 @@ use Rattle.expr_sem.specs.ProcedureNames.{procedure_code as spec_code, target_of
 use Rattle.expr_sem.specs.Targets.{target_view}
 use Rattle.expr_sem.specs.declared.procedure_names.Target.{Target}
 use Rattle.type_rules.specs.Scenes.{scene_of}
-use Rattle.expr_sem.proofs.Making.{made_told}
+use Rattle.expr_sem.proofs.Making.{made_told, question_failed, question_waits}
 use Rattle.expr_sem.proofs.procedure_names.procedure_code.Goals as goal
 
 pub returns-in-Some : goal.returns-in-Some
@@ -30,3 +30,9 @@ returns-in-None g c n =
     (λ made in_hand told. ap (λ (t : Option Target). spec_code (scene_of f made a) (option_map target_view t)) (sym c.in-None.is)
     ∙ ap (spec_code (scene_of f made a))
     (subst (λ (x : Ask (Option Target)). IfKnown (Ok x) (λ t. option_map target_view t ≡ target_of_procedure (scene_of f made a) c.args.name c.args.named.of c.args.named.number)) c.in-Known.is (c.in-Ok.ensures.told made in_hand told)))
+
+pub returns-in-DontKnowYet : goal.returns-in-DontKnowYet
+returns-in-DontKnowYet g c n = question_waits n _ c.in-Ok.ensures.reads (rw c.in-DontKnowYet.is at c.in-Ok.ensures.waits)
+
+pub returns-in-Err : goal.returns-in-Err
+returns-in-Err g c n = question_failed n _ c.in-Err.ensures.reads _

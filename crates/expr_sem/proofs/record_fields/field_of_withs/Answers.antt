@@ -1,7 +1,11 @@
-use Rattle.std.proofs.Common.{◌∙◌, None, Some, refl, sym}
+use Rattle.std.proofs.Common.{◌∙◌, List, None, Some, ap, refl, sym}
+use Rattle.std.proofs.lemmas.List.{drop_all}
 use Rattle.type_rules.specs.Scenes.{scene_of}
 use Rattle.type_rules.proofs.Later.{Suits_read}
 use Rattle.type_rules.proofs.Reading.{Reads-refl, Reads-trans, Waits_read}
+use Rattle.expr_sem.specs.Codings.{with_types}
+use Rattle.expr_sem.specs.Selections.{with_number}
+use Rattle.expr_sem.specs.declared.pieces.With.{With}
 use Rattle.expr_sem.proofs.Selecting.{asked_before, with_step}
 use Rattle.expr_sem.proofs.record_fields.field_of_withs.Goals as goal
 
@@ -45,3 +49,9 @@ loop-number-preserved g c =
 
 pub returns-clause-reads : goal.returns-clause-reads
 returns-clause-reads g c = c.loop-number.invariant.reads
+
+pub returns-clause-told : goal.returns-clause-told
+returns-clause-told g c made in_hand told =
+    let scene = scene_of (g.S.Scopes.state c.args.scopes.now).frame made c.args.around.now in
+    let k = c.loop-number.number in
+    sym (ap (λ (l : List With). with_number scene k (with_types l) c.args.name) (drop_all k c.args.withs.now c.loop-number-test.false)) ∙ c.loop-number.invariant.left made in_hand told

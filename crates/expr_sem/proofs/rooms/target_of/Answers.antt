@@ -1,13 +1,23 @@
-use Rattle.std.proofs.Common.{◌∙◌, ap, subst, sym}
+use Rattle.std.proofs.Common.{◌≡◌, ◌∙◌, ap, refl, subst, sym}
+use Rattle.m2_base.specs.Standard.{broken}
 use Rattle.m2_base.specs.States.{Frame}
+use Rattle.m2_base.specs.Statics.Contexts.{Scene}
 use Rattle.m2_base.specs.Statics.TypeParts.{named_target, target_by, target_of}
 use Rattle.m2_base.specs.Statics.Types.{meaning_at}
+use Rattle.m2_base.specs.declared.rows.Place.{Place}
+use Rattle.m2_base.specs.declared.rows.RowMeaning.{RowMeaning}
+use Rattle.m2_base.specs.declared.rows.RowMeaning.TheVariants.{Pointer}
+use Rattle.const_eval.proofs.TypesThere.{standard_there}
 use Rattle.type_rules.specs.Asks.{WhereKnown}
 use Rattle.type_rules.specs.Scenes.{IsThere, scene_of}
 use Rattle.type_rules.proofs.Compatibles.{told_as}
 use Rattle.type_rules.proofs.Later.{Suits_read, Waits_asked}
 use Rattle.type_rules.proofs.Reading.{Reads-trans}
 use Rattle.expr_sem.proofs.rooms.target_of.Goals as goal
+
+no_target : (scene : Scene) (m : RowMeaning) → ((p : Place) → m ≡ Pointer p → ⊥) → broken ≡ target_by scene m
+no_target scene (Pointer p) h = absurd (h p refl)
+no_target scene m h = refl
 
 pub stand-requires-clause-suits : goal.stand-requires-clause-suits
 stand-requires-clause-suits g c = c.requires.suits
@@ -41,3 +51,14 @@ returns-in-Pointer-clause-told g c =
 pub returns-in-Pointer-clause-there : goal.returns-in-Pointer-clause-there
 returns-in-Pointer-clause-there g c =
     subst (λ (f : Frame). WhereKnown c.target_named.result (λ t. IsThere f t)) c.in-Known.ensures.reads.keeps.frame c.target_named.ensures.there
+
+pub returns-in_default-clause-reads : goal.returns-in_default-clause-reads
+returns-in_default-clause-reads g c = c.in-Known.ensures.reads
+
+pub returns-in_default-clause-told : goal.returns-in_default-clause-told
+returns-in_default-clause-told g c made in_hand told =
+    let scene = scene_of (g.S.Scopes.state c.args.scopes.now).frame made c.args.around.now in
+    no_target scene c.in-Known.value.1 c.in_default.not-Pointer ∙ ap (target_by scene) (c.in-Known.ensures.kind made in_hand told)
+
+pub returns-in_default-clause-there : goal.returns-in_default-clause-there
+returns-in_default-clause-there g c = standard_there c.requires.suits 10

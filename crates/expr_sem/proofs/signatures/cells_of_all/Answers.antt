@@ -1,7 +1,11 @@
-use Rattle.std.proofs.Common.{◌≡◌, ◌∙◌, Bool, ap, arith, if◌then◌else◌, sym}
+use Rattle.std.proofs.Common.{◌≡◌, ◌∙◌, Bool, List, ap, arith, if◌then◌else◌, map, sym}
+use Rattle.std.proofs.lemmas.List.{drop_all}
 use Rattle.type_rules.specs.Scenes.{scene_of}
 use Rattle.type_rules.proofs.Later.{Suits_read}
 use Rattle.type_rules.proofs.Reading.{Reads-refl, Reads-trans, Waits_read}
+use Rattle.expr_sem.specs.ArgumentCodes.{parameter_view}
+use Rattle.expr_sem.specs.Calls.{cells_of_all}
+use Rattle.expr_sem.specs.declared.arguments.Parameter.{Parameter}
 use Rattle.expr_sem.proofs.CallCases.{cells_step, open_before}
 use Rattle.expr_sem.proofs.signatures.cells_of_all.Goals as goal
 use Rattle.expr_sem.proofs.signatures.cells_of_all.Goals.{then-is_open, else-is_open}
@@ -52,3 +56,10 @@ returns-clause-reads g c = c.loop-number.invariant.reads
 
 pub returns-clause-waits : goal.returns-clause-waits
 returns-clause-waits g c = tt
+
+pub returns-clause-told : goal.returns-clause-told
+returns-clause-told g c made in_hand told =
+    let scene = scene_of (g.S.Scopes.state c.args.scopes.now).frame made c.args.around.now in
+    let left = c.loop-number.invariant.left made in_hand told in
+    let none = ap (λ (l : List Parameter). cells_of_all scene (map parameter_view l)) (drop_all c.loop-number.number c.args.params.now c.loop-number-test.false) in
+    omega (arith, left, none)

@@ -20,6 +20,8 @@ use Rattle.expr_sem.proofs.Following.{by_coding, by_question, followed_by, then_
 use Rattle.expr_sem.proofs.Making.{after_question}
 use Rattle.expr_sem.proofs.Operating.{coding_after, described, unknown, unmade}
 use Rattle.expr_sem.proofs.Selecting.{error_alone, stays_read}
+use Rattle.type_rules.proofs.Reading.{Reads-trans}
+use Rattle.const_eval.proofs.Later.{SuitsSite_read}
 use Rattle.expr_sem.proofs.step_numbers.step_number.Goals as goal
 use Rattle.expr_sem.proofs.step_numbers.step_number.Goals.{then-is_integer_or_cardinal, else-is_integer_or_cardinal}
 
@@ -101,3 +103,9 @@ returns-else-holds g c nodes h =
     ap (λ (t : Place). number_of_type k c.args.n.at t v) (want ∙ ap (λ (b : Place). if is_integer_or_cardinal b then b else cardinal) (c.in-Known-base_of.ensures.told made in_hand told))))
     (λ k. ap (λ (t : Place). number_of_type k c.args.n.at (step_type k.scene t) v) c.operand_type.ensures
     ∙ ap (λ (b : Bool). if b then gives in_error else number_of_type k c.args.n.at (step_type k.scene (operand_type c.args.x.operand)) v) (sym c.if-either_bad.false ∙ c.either_bad.ensures)))
+
+pub is_step-requires-clause-suits : goal.is_step-requires-clause-suits
+is_step-requires-clause-suits g c = SuitsSite_read c.base_of.ensures.reads c.requires.suits
+
+pub in_range-requires-clause-suits : goal.in_range-requires-clause-suits
+in_range-requires-clause-suits g c = SuitsSite_read (Reads-trans c.base_of.ensures.reads c.is_step.ensures.reads) c.requires.suits

@@ -5,7 +5,7 @@ use Rattle.m2_base.specs.declared.replies.Ask.TheVariants.{Known}
 use Rattle.expr_sem.specs.Codings.{IsCoded, coded_in}
 use Rattle.expr_sem.specs.Values.{in_range_by}
 use Rattle.type_rules.specs.Sites.{context_of}
-use Rattle.expr_sem.proofs.Making.{after_question}
+use Rattle.expr_sem.proofs.Making.{after_question, question_waits}
 use Rattle.expr_sem.proofs.Operating.{value_alone}
 use Rattle.expr_sem.proofs.ValueCases.{range_kept, range_left, range_passed}
 use Rattle.expr_sem.proofs.values.in_range.Goals as goal
@@ -44,3 +44,6 @@ returns-in_default g c nodes h =
     (value_alone (g.S.Scopes.state c.range_of.new.scopes) c.args.notes.now nodes c.args.site.now x IsCoded coded_in (λ k. v) (subst (λ (e : Frame). IsCoded e nodes x) (sym reads.keeps.frame) h) (λ k. refl))
     (λ made in_hand told. let k = context_of (g.S.Scopes.state c.args.scopes.now).frame made c.args.site.now in
     range_passed k c.args.x.at r v x.operand c.in_default.not-Constant ∙ ap (λ r. in_range_by k c.args.x.at r v x.operand) (c.in-Known.ensures.told made in_hand told))
+
+pub returns-in-DontKnowYet : goal.returns-in-DontKnowYet
+returns-in-DontKnowYet g c nodes h = question_waits _ nodes c.range_of.ensures.reads c.in-DontKnowYet.ensures.waits

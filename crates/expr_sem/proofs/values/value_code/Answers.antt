@@ -7,7 +7,7 @@ use Rattle.expr_sem.specs.Fragments.{part}
 use Rattle.expr_sem.specs.Parts.{plain, ◌⨟◌}
 use Rattle.type_rules.specs.Sites.{context_of}
 use Rattle.type_rules.proofs.Reading.{Reads-refl}
-use Rattle.expr_sem.proofs.Making.{made_alone, made_told, there_told}
+use Rattle.expr_sem.proofs.Making.{made_alone, made_told, there_told, question_waits}
 use Rattle.expr_sem.proofs.Operating.{described}
 use Rattle.expr_sem.proofs.ValueCases.{other_value}
 use Rattle.m2_base.specs.Finished.{source_of}
@@ -54,3 +54,6 @@ returns-in_default g c n =
     there_told n c.args.x.code (λ k. spec_value_code k (coded_in ns c.args.x)) (Reads-refl state) c.requires.x.code
     (λ made in_hand told. other_value (context_of state.frame made c.args.site.now) (part ns c.args.x.code) c.args.x.operand
     (λ t v. c.in_default.not-Constant t v) (λ m l. c.in_default.not-StringConstant m l) (λ t. c.in_default.not-Variable t) (λ m t k s. c.in_default.not-Procedure m t k s))
+
+pub returns-in-DontKnowYet : goal.returns-in-DontKnowYet
+returns-in-DontKnowYet g c n = question_waits n _ c.is_structured.ensures.reads c.in-DontKnowYet.ensures.waits

@@ -1,9 +1,22 @@
-use Rattle.std.proofs.Common.{◌≡◌, ◌∙◌, None, Option, Some, ap, option_map, refl, sym}
+use Rattle.std.proofs.Common.{◌≡◌, ◌∙◌, None, Option, Some, ap, false, option_map, refl, sym}
 use Rattle.std.specs.Prelude.{is_some}
+use Rattle.m2_base.specs.Statics.Operations.{is_set_kind}
+use Rattle.m2_base.specs.declared.rows.Place.{Place}
+use Rattle.m2_base.specs.declared.rows.RowMeaning.{RowMeaning}
+use Rattle.m2_base.specs.declared.rows.RowMeaning.TheVariants.{Pointer, Set}
 use Rattle.type_rules.specs.Scenes.{scene_of}
+use Rattle.expr_sem.specs.StandardProcedures.{is_pointer_type}
 use Rattle.expr_sem.specs.VariableArguments.{is_wanted as spec_wanted}
 use Rattle.expr_sem.specs.declared.variable_arguments.Wanted.{Wanted}
 use Rattle.expr_sem.proofs.variable_arguments.is_wanted.Goals as goal
+
+no_set : (m : RowMeaning) → ((p : Place) → m ≡ Set p → ⊥) → false ≡ is_set_kind m
+no_set (Set p) h = absurd (h p refl)
+no_set m h = refl
+
+no_pointer : (m : RowMeaning) → ((p : Place) → m ≡ Pointer p → ⊥) → false ≡ is_pointer_type m
+no_pointer (Pointer p) h = absurd (h p refl)
+no_pointer m h = refl
 
 -- a part of what is there is there
 kept_some : {A B : Type 0} (f : A → B) (o : Option A) → is_some (option_map f o) ≡ is_some o
@@ -77,3 +90,19 @@ pub returns-in-Known-clause-told : goal.returns-in-Known-clause-told
 returns-in-Known-clause-told g c made in_hand told =
     let scene = scene_of (g.S.Scopes.state c.args.scopes.now).frame made c.args.site.now.around.now in
     c.is_some.ensures ∙ sym (kept_some _ c.in-Known.value) ∙ ap is_some (c.in-Known.ensures.told made in_hand told) ∙ ap (λ (w : Wanted). spec_wanted scene w c.args.of) (sym c.in-Ordinal.is)
+
+pub returns-in_default-clause-reads : goal.returns-in_default-clause-reads
+returns-in_default-clause-reads g c = c.in-Known-stand.ensures.reads
+
+pub returns-in_default-clause-told : goal.returns-in_default-clause-told
+returns-in_default-clause-told g c made in_hand told =
+    let scene = scene_of (g.S.Scopes.state c.args.scopes.now).frame made c.args.site.now.around.now in
+    no_set c.in-Known-stand.value.1 c.in_default.not-Set ∙ ap is_set_kind (c.in-Known-stand.ensures.kind made in_hand told) ∙ ap (λ (w : Wanted). spec_wanted scene w c.args.of) (sym c.in-Set.is)
+
+pub returns-in_default-matches-clause-reads : goal.returns-in_default-matches-clause-reads
+returns-in_default-matches-clause-reads g c = c.in-Known-stand-2.ensures.reads
+
+pub returns-in_default-matches-clause-told : goal.returns-in_default-matches-clause-told
+returns-in_default-matches-clause-told g c made in_hand told =
+    let scene = scene_of (g.S.Scopes.state c.args.scopes.now).frame made c.args.site.now.around.now in
+    no_pointer c.in-Known-stand-2.value.1 c.in_default-matches.not-Pointer ∙ ap is_pointer_type (c.in-Known-stand-2.ensures.kind made in_hand told) ∙ ap (λ (w : Wanted). spec_wanted scene w c.args.of) (sym c.in-Pointer.is)

@@ -121,3 +121,6 @@ returns-in_default-clause-codes g c =
     after_question c.refuse_argument.result c.stand.ensures.reads (c.refuse_argument.ensures (g.S.Scopes.state c.stand.new.scopes) ns)
     (λ made in_hand told. let k = context_of (g.S.Scopes.state c.args.self.now.scopes.now).frame made c.args.self.now.site.now in
     other_array k c.args.want c.args.x.at x c.in-Known.value.1 c.in_default.not-Array c.in_default.not-OpenArray ∙ ap (array_argument k c.args.want c.args.x.at x) (c.in-Known.ensures.kind made in_hand told))
+
+pub returns-in-DontKnowYet-clause-codes : goal.returns-in-DontKnowYet-clause-codes
+returns-in-DontKnowYet-clause-codes g c = question_waits _ _ c.stand.ensures.reads c.in-DontKnowYet.ensures.waits

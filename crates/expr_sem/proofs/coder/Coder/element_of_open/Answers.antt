@@ -1,22 +1,35 @@
-use Rattle.std.proofs.Common.{◌∙◌, ◌∷◌, [], Ok, ap, sym, refl, if◌then◌else◌}
+use Rattle.std.proofs.Common.{◌∙◌, ◌∷◌, [], Bool, Ok, ap, sym, subst, refl, if◌then◌else◌}
 use Rattle.m2_base.specs.Gives.{gives}
+use Rattle.m2_base.specs.States.{Frame}
+use Rattle.m2_base.specs.Statics.Types.{size_of}
 use Rattle.m2_base.specs.declared.operands.Operand.TheVariants.{Variable}
 use Rattle.m2_base.specs.declared.replies.Ask.TheVariants.{Known}
 use Rattle.code_form.specs.declared.instr.Instr.TheVariants.{IndexOpen}
+use Rattle.type_rules.specs.Scenes.{IsThere}
 use Rattle.type_rules.specs.Sites.{context_of}
-use Rattle.expr_sem.specs.Coded.{coded, in_error, value_code}
+use Rattle.type_rules.proofs.Later.{IsThere_read, Suits_read}
+use Rattle.type_rules.proofs.Reading.{Reads-trans}
+use Rattle.const_eval.proofs.Later.{SuitsSite_read}
+use Rattle.expr_sem.specs.Coded.{Coded, coded, in_error, value_code}
 use Rattle.expr_sem.specs.Codings.{coded_in, high_in}
 use Rattle.expr_sem.specs.Fragments.{part}
 use Rattle.expr_sem.specs.Parts.{plain, ◌⨟◌}
+use Rattle.expr_sem.proofs.Following.{by_question, still_coded, then_unknown, then_waits, then_wanted}
 use Rattle.expr_sem.proofs.Making.{after_question, question_waits}
-use Rattle.expr_sem.proofs.Operating.{stays_coded}
+use Rattle.expr_sem.proofs.Operating.{coded_later, coding_after, described, stays_coded}
+use Rattle.expr_sem.proofs.Quiet.{no_notes}
 use Rattle.expr_sem.proofs.Selecting.{error_alone}
-use Rattle.expr_sem.proofs.Sequencing.{Grows-refl}
-use Rattle.m2_base.specs.Statics.Types.{size_of}
+use Rattle.expr_sem.proofs.Sequencing.{in_later}
 use Rattle.expr_sem.proofs.coder.Coder.element_of_open.Goals as goal
 
+pub is_spoilt-requires-clause-suits : goal.is_spoilt-requires-clause-suits
+is_spoilt-requires-clause-suits g c = c.requires.suits.around
+
+pub is_spoilt-requires-clause-of : goal.is_spoilt-requires-clause-of
+is_spoilt-requires-clause-of g c = c.requires.of
+
 pub returns-in-DontKnowYet-clause-codes : goal.returns-in-DontKnowYet-clause-codes
-returns-in-DontKnowYet-clause-codes g c = let notes = c.args.self.now.notes.now in question_waits notes _ c.is_spoilt.ensures.reads c.in-DontKnowYet.ensures.waits
+returns-in-DontKnowYet-clause-codes g c = question_waits _ _ c.is_spoilt.ensures.reads c.in-DontKnowYet.ensures.waits
 
 pub returns-then-value-clause-codes : goal.returns-then-value-clause-codes
 returns-then-value-clause-codes g c =
@@ -24,17 +37,61 @@ returns-then-value-clause-codes g c =
     let ns = c.args.self.now.fragments.now.nodes.items in
     after_question (Ok (Known c.in_error.result)) c.is_spoilt.ensures.reads
     (error_alone _ notes _ _ c.in_error.result (λ k. gives in_error) c.in_error.ensures.told c.in_error.ensures.there (λ k. refl))
-    (λ made in_hand told. let k = (context_of (g.S.Scopes.state c.args.self.now.scopes.now).frame made c.args.self.now.site.now) in ap (λ b. if b then gives in_error else gives (coded (Variable c.args.of) (part ns c.args.x.code ⨟ high_in ns c.args.x.high ⨟ value_code k (coded_in ns c.args.index) ⨟ plain (IndexOpen (size_of k.scene c.args.of) ∷ [])))) (sym c.if-value.true ∙ c.in-Known.ensures.told made in_hand told))
+    (λ made in_hand told. let k = (context_of (g.S.Scopes.state c.args.self.now.scopes.now).frame made c.args.self.now.site.now) in ap (λ (b : Bool). if b then gives in_error else gives (coded (Variable c.args.of) (part ns c.args.x.code ⨟ high_in ns c.args.x.high ⨟ value_code k (coded_in ns c.args.index) ⨟ plain (IndexOpen (size_of k.scene c.args.of) ∷ [])))) (sym c.if-value.true ∙ c.in-Known.ensures.told made in_hand told))
+
+pub cells_of-requires-clause-suits : goal.cells_of-requires-clause-suits
+cells_of-requires-clause-suits g c = Suits_read c.is_spoilt.ensures.reads c.requires.suits.around
+
+pub cells_of-requires-clause-of : goal.cells_of-requires-clause-of
+cells_of-requires-clause-of g c = IsThere_read c.is_spoilt.ensures.reads c.requires.of
+
+pub returns-in-DontKnowYet-cells_of-clause-codes : goal.returns-in-DontKnowYet-cells_of-clause-codes
+returns-in-DontKnowYet-cells_of-clause-codes g c =
+    then_waits (by_question c.args.self.now.notes.now c.args.self.now.fragments.now.nodes.items c.is_spoilt.ensures.reads) c.cells_of.ensures.reads c.in-DontKnowYet-cells_of.ensures.waits
+
+pub value_code-requires-clause-suits : goal.value_code-requires-clause-suits
+value_code-requires-clause-suits g c = SuitsSite_read (Reads-trans c.is_spoilt.ensures.reads c.cells_of.ensures.reads) c.requires.suits
+
+pub value_code-requires-clause-x : goal.value_code-requires-clause-x
+value_code-requires-clause-x g c =
+    still_coded (by_question c.args.self.now.notes.now c.args.self.now.fragments.now.nodes.items (Reads-trans c.is_spoilt.ensures.reads c.cells_of.ensures.reads)) c.args.index c.requires.index
+
+pub returns-in-DontKnowYet-asked-clause-codes : goal.returns-in-DontKnowYet-asked-clause-codes
+returns-in-DontKnowYet-asked-clause-codes g c =
+    let notes = c.args.self.now.notes.now in
+    then_unknown (by_question notes c.args.self.now.fragments.now.nodes.items (Reads-trans c.is_spoilt.ensures.reads c.cells_of.ensures.reads)) (rw c.in-DontKnowYet-asked.is at c.in-Ok.ensures notes)
+
+pub returns-in-Err-clause-codes : goal.returns-in-Err-clause-codes
+returns-in-Err-clause-codes g c =
+    let notes = c.args.self.now.notes.now in
+    then_wanted (by_question notes c.args.self.now.fragments.now.nodes.items (Reads-trans c.is_spoilt.ensures.reads c.cells_of.ensures.reads)) (c.in-Err.ensures notes) _
+
+pub open_code-requires-clause-code : goal.open_code-requires-clause-code
+open_code-requires-clause-code g c = let one = (rw c.in-Known-asked.is at c.in-Ok.ensures (no_notes c.args.self.now.fragments.now)) in in_later one.grows c.args.x.code c.requires.x.code
+
+pub open_code-requires-clause-high : goal.open_code-requires-clause-high
+open_code-requires-clause-high g c = let one = (rw c.in-Known-asked.is at c.in-Ok.ensures (no_notes c.args.self.now.fragments.now)) in (stays_coded refl one.grows c.args.x c.requires.x).high
+
+pub open_code-requires-clause-value : goal.open_code-requires-clause-value
+open_code-requires-clause-value g c = let one = (rw c.in-Known-asked.is at c.in-Ok.ensures (no_notes c.args.self.now.fragments.now)) in one.there
 
 pub returns-clause-codes : goal.returns-clause-codes
 returns-clause-codes g c =
     let notes = c.args.self.now.notes.now in
+    let site = c.args.self.now.site.now in
     let ns = c.args.self.now.fragments.now.nodes.items in
-    after_question c.open_indexed.result c.is_spoilt.ensures.reads (c.open_indexed.ensures.codes)
-    (λ made in_hand told. let k = (context_of (g.S.Scopes.state c.args.self.now.scopes.now).frame made c.args.self.now.site.now) in ap (λ b. if b then gives in_error else gives (coded (Variable c.args.of) (part ns c.args.x.code ⨟ high_in ns c.args.x.high ⨟ value_code k (coded_in ns c.args.index) ⨟ plain (IndexOpen (size_of k.scene c.args.of) ∷ [])))) (sym c.if-value.false ∙ c.in-Known.ensures.told made in_hand told))
-
-pub open_indexed-requires-clause-index : goal.open_indexed-requires-clause-index
-open_indexed-requires-clause-index g c = stays_coded c.is_spoilt.ensures.reads.keeps.frame (Grows-refl _) c.args.index c.requires.index
-
-pub open_indexed-requires-clause-x : goal.open_indexed-requires-clause-x
-open_indexed-requires-clause-x g c = stays_coded c.is_spoilt.ensures.reads.keeps.frame (Grows-refl _) c.args.x c.requires.x
+    let ms = c.value_code.new.fragments.nodes.items in
+    let size = c.in-Known-cells_of.value in
+    let one = (rw c.in-Known-asked.is at c.in-Ok.ensures notes) in
+    let reads = Reads-trans c.is_spoilt.ensures.reads c.cells_of.ensures.reads in
+    let there = subst (λ (f : Frame). IsThere f c.args.of) (sym one.works.keeps.frame) (IsThere_read reads c.requires.of) in
+    after_question c.variable_at.result c.is_spoilt.ensures.reads
+    (after_question {h = λ k. gives (coded (Variable c.args.of) (part ns c.args.x.code ⨟ high_in ns c.args.x.high ⨟ value_code k (coded_in ns c.args.index) ⨟ plain (IndexOpen (size_of k.scene c.args.of) ∷ [])))} c.variable_at.result c.cells_of.ensures.reads
+    (described c.variable_at.result
+    (coding_after (λ k. gives (value_code k (coded_in ns c.args.index))) (λ q k. gives (coded (Variable c.args.of) (part ms c.args.x.code ⨟ high_in ms c.args.x.high ⨟ q ⨟ plain (IndexOpen size ∷ [])))) c.variable_at.result one
+    (c.variable_at.ensures (g.S.Scopes.state c.value_code.new.scopes) notes site _ _ _ there c.open_code.ensures))
+    (λ k. ap (λ (y : Coded). gives (coded (Variable c.args.of) (y.code ⨟ y.high ⨟ value_code k (coded_in ns c.args.index) ⨟ plain (IndexOpen size ∷ [])))) (coded_later one.grows c.args.x c.requires.x)))
+    (λ made in_hand told. let k = (context_of (g.S.Scopes.state c.is_spoilt.new.scopes).frame made site) in
+    ap (λ n. gives (coded (Variable c.args.of) (part ns c.args.x.code ⨟ high_in ns c.args.x.high ⨟ value_code k (coded_in ns c.args.index) ⨟ plain (IndexOpen n ∷ [])))) (c.in-Known-cells_of.ensures.told made in_hand told)))
+    (λ made in_hand told. let k = (context_of (g.S.Scopes.state c.args.self.now.scopes.now).frame made site) in
+    ap (λ (b : Bool). if b then gives in_error else gives (coded (Variable c.args.of) (part ns c.args.x.code ⨟ high_in ns c.args.x.high ⨟ value_code k (coded_in ns c.args.index) ⨟ plain (IndexOpen (size_of k.scene c.args.of) ∷ [])))) (sym c.if-value.false ∙ c.in-Known.ensures.told made in_hand told))

@@ -1,11 +1,11 @@
-use Rattle.std.proofs.Common.{◌≡◌, ℕ, ap, sym, refl}
+use Rattle.std.proofs.Common.{◌≡◌, ◌⊎◌, ℕ, ap, inl, inr, sym, refl}
 use Rattle.m2_base.specs.Gives.{gives}
 use Rattle.m2_base.specs.Statics.Contexts.{Context}
 use Rattle.m2_base.specs.declared.builtins.Builtin.{Builtin}
 use Rattle.m2_base.specs.declared.builtins.Builtin.TheVariants.{Dec, Excl, Inc, Incl}
 use Rattle.expr_sem.specs.Coded.{Coded}
 use Rattle.expr_sem.specs.Codings.{IsCoded, coded_in}
-use Rattle.expr_sem.specs.StandardProcedures.{first_of_two}
+use Rattle.expr_sem.specs.StandardProcedures.{first_of_two, ordinal_variable, set_variable}
 use Rattle.expr_sem.proofs.Operating.{described, value_alone}
 use Rattle.expr_sem.proofs.coder.Coder.first_of_two.Goals as goal
 
@@ -16,21 +16,20 @@ as_it_is c Incl at x h1 h2 h3 h4 = absurd (h3 refl)
 as_it_is c Excl at x h1 h2 h3 h4 = absurd (h4 refl)
 as_it_is c f at x h1 h2 h3 h4 = refl
 
+-- a number is added to an ordinal variable, and an element to a set
+of_ordinal : (c : Context) (f : Builtin) (at : ℕ) (x : Coded) → (f ≡ Inc) ⊎ (f ≡ Dec) → ordinal_variable c at x ≡ first_of_two c f at x
+of_ordinal c f at x is = elim is as (λ _. ordinal_variable c at x ≡ first_of_two c f at x) [ inl e ↦ ap (λ (g : Builtin). first_of_two c g at x) (sym e) | inr e ↦ ap (λ (g : Builtin). first_of_two c g at x) (sym e) ]
+
+of_set : (c : Context) (f : Builtin) (at : ℕ) (x : Coded) → (f ≡ Incl) ⊎ (f ≡ Excl) → set_variable c at x ≡ first_of_two c f at x
+of_set c f at x is = elim is as (λ _. set_variable c at x ≡ first_of_two c f at x) [ inl e ↦ ap (λ (g : Builtin). first_of_two c g at x) (sym e) | inr e ↦ ap (λ (g : Builtin). first_of_two c g at x) (sym e) ]
+
 pub returns-in-Inc-clause-codes : goal.returns-in-Inc-clause-codes
 returns-in-Inc-clause-codes g c =
-    described c.variable_argument.result (c.variable_argument.ensures c.args.self.now.fragments.now.nodes.items c.requires.x) (λ k. ap (λ (f : Builtin). first_of_two k f c.args.at (coded_in c.args.self.now.fragments.now.nodes.items c.args.x)) (sym c.in-Inc.is))
-
-pub returns-in-Dec-clause-codes : goal.returns-in-Dec-clause-codes
-returns-in-Dec-clause-codes g c =
-    described c.variable_argument-in-Dec.result (c.variable_argument-in-Dec.ensures c.args.self.now.fragments.now.nodes.items c.requires.x) (λ k. ap (λ (f : Builtin). first_of_two k f c.args.at (coded_in c.args.self.now.fragments.now.nodes.items c.args.x)) (sym c.in-Dec.is))
+    described c.variable_argument.result (c.variable_argument.ensures c.args.self.now.fragments.now.nodes.items c.requires.x) (λ k. of_ordinal k c.args.f c.args.at (coded_in c.args.self.now.fragments.now.nodes.items c.args.x) c.in-Inc.is)
 
 pub returns-in-Incl-clause-codes : goal.returns-in-Incl-clause-codes
 returns-in-Incl-clause-codes g c =
-    described c.variable_argument-in-Incl.result (c.variable_argument-in-Incl.ensures c.args.self.now.fragments.now.nodes.items c.requires.x) (λ k. ap (λ (f : Builtin). first_of_two k f c.args.at (coded_in c.args.self.now.fragments.now.nodes.items c.args.x)) (sym c.in-Incl.is))
-
-pub returns-in-Excl-clause-codes : goal.returns-in-Excl-clause-codes
-returns-in-Excl-clause-codes g c =
-    described c.variable_argument-in-Excl.result (c.variable_argument-in-Excl.ensures c.args.self.now.fragments.now.nodes.items c.requires.x) (λ k. ap (λ (f : Builtin). first_of_two k f c.args.at (coded_in c.args.self.now.fragments.now.nodes.items c.args.x)) (sym c.in-Excl.is))
+    described c.variable_argument-in-Incl.result (c.variable_argument-in-Incl.ensures c.args.self.now.fragments.now.nodes.items c.requires.x) (λ k. of_set k c.args.f c.args.at (coded_in c.args.self.now.fragments.now.nodes.items c.args.x) c.in-Incl.is)
 
 pub returns-in_default-clause-codes : goal.returns-in_default-clause-codes
 returns-in_default-clause-codes g c =
@@ -41,11 +40,5 @@ returns-in_default-clause-codes g c =
 pub variable_argument-requires-clause-x : goal.variable_argument-requires-clause-x
 variable_argument-requires-clause-x g c = (c.args.self.now.fragments.now.nodes.items, c.requires.x)
 
-pub variable_argument-requires-in-Dec-clause-x : goal.variable_argument-requires-in-Dec-clause-x
-variable_argument-requires-in-Dec-clause-x g c = (c.args.self.now.fragments.now.nodes.items, c.requires.x)
-
 pub variable_argument-requires-in-Incl-clause-x : goal.variable_argument-requires-in-Incl-clause-x
 variable_argument-requires-in-Incl-clause-x g c = (c.args.self.now.fragments.now.nodes.items, c.requires.x)
-
-pub variable_argument-requires-in-Excl-clause-x : goal.variable_argument-requires-in-Excl-clause-x
-variable_argument-requires-in-Excl-clause-x g c = (c.args.self.now.fragments.now.nodes.items, c.requires.x)

@@ -1,12 +1,13 @@
-use Rattle.std.proofs.Common.{◌≡◌, ℕ, ap, sym, refl}
-use Rattle.m2_base.specs.Gives.{gives}
+use Rattle.std.proofs.Common.{◌≡◌, ◌⊎◌, ℕ, ap, inl, inr, subst, sym, refl}
+use Rattle.m2_base.specs.Gives.{and_then, gives}
 use Rattle.m2_base.specs.Statics.Contexts.{Context}
 use Rattle.m2_base.specs.declared.builtins.Builtin.{Builtin}
 use Rattle.m2_base.specs.declared.builtins.Builtin.TheVariants.{Dec, Excl, Inc, Incl, Val}
 use Rattle.expr_sem.specs.Coded.{Coded, in_error}
 use Rattle.expr_sem.specs.Codings.{coded_in}
-use Rattle.expr_sem.specs.StandardProcedures.{of_two_arguments}
-use Rattle.expr_sem.proofs.Operating.{described}
+use Rattle.expr_sem.specs.StandardProcedures.{included, of_two_arguments, set_member, step_number, stepped}
+use Rattle.expr_sem.proofs.Onwards.{coded_after, suits_after}
+use Rattle.expr_sem.proofs.Operating.{coding_after, described, unknown, unmade}
 use Rattle.expr_sem.proofs.Selecting.{error_alone}
 use Rattle.expr_sem.proofs.coder.Coder.of_two_arguments.Goals as goal
 
@@ -18,25 +19,57 @@ of_others c Excl x_at x at y h1 h2 h3 h4 h5 = absurd (h4 refl)
 of_others c Val x_at x at y h1 h2 h3 h4 h5 = absurd (h5 refl)
 of_others c f x_at x at y h1 h2 h3 h4 h5 = refl
 
-pub returns-in-Inc-clause-codes : goal.returns-in-Inc-clause-codes
-returns-in-Inc-clause-codes g c =
-    let ns = c.args.self.now.fragments.now.nodes.items in
-    described c.stepped_by_number.result c.stepped_by_number.ensures.codes (λ k. ap (λ (f : Builtin). of_two_arguments k f c.args.x.at (coded_in ns c.args.x.coded) c.args.y.at (coded_in ns c.args.y.coded)) (sym c.in-Inc.is))
+-- a number is added, and an element
+of_number : (c : Context) (f : Builtin) (x_at : ℕ) (x : Coded) (at : ℕ) (y : Coded) → (f ≡ Inc) ⊎ (f ≡ Dec) → and_then (step_number c x at y) (λ n. gives (stepped c f x n)) ≡ of_two_arguments c f x_at x at y
+of_number c f x_at x at y is =
+    elim is as (λ _. and_then (step_number c x at y) (λ n. gives (stepped c f x n)) ≡ of_two_arguments c f x_at x at y) [
+      | inl e ↦ subst (λ (g : Builtin). and_then (step_number c x at y) (λ n. gives (stepped c g x n)) ≡ of_two_arguments c g x_at x at y) (sym e) refl
+      | inr e ↦ subst (λ (g : Builtin). and_then (step_number c x at y) (λ n. gives (stepped c g x n)) ≡ of_two_arguments c g x_at x at y) (sym e) refl
+    ]
 
-pub returns-in-Dec-clause-codes : goal.returns-in-Dec-clause-codes
-returns-in-Dec-clause-codes g c =
+of_element : (c : Context) (f : Builtin) (x_at : ℕ) (x : Coded) (at : ℕ) (y : Coded) → (f ≡ Incl) ⊎ (f ≡ Excl) → and_then (set_member c x at y) (λ e. gives (included c f x e)) ≡ of_two_arguments c f x_at x at y
+of_element c f x_at x at y is =
+    elim is as (λ _. and_then (set_member c x at y) (λ e. gives (included c f x e)) ≡ of_two_arguments c f x_at x at y) [
+      | inl e ↦ subst (λ (g : Builtin). and_then (set_member c x at y) (λ v. gives (included c g x v)) ≡ of_two_arguments c g x_at x at y) (sym e) refl
+      | inr e ↦ subst (λ (g : Builtin). and_then (set_member c x at y) (λ v. gives (included c g x v)) ≡ of_two_arguments c g x_at x at y) (sym e) refl
+    ]
+
+pub step_number-requires-clause-x : goal.step_number-requires-clause-x
+step_number-requires-clause-x g c = c.requires.x.operand
+
+pub step_number-requires-clause-n : goal.step_number-requires-clause-n
+step_number-requires-clause-n g c = (c.args.self.now.fragments.now.nodes.items, c.requires.y)
+
+pub returns-in-DontKnowYet-clause-codes : goal.returns-in-DontKnowYet-clause-codes
+returns-in-DontKnowYet-clause-codes g c = unknown (rw c.in-DontKnowYet.is at c.in-Ok.ensures c.args.self.now.fragments.now.nodes.items c.requires.y)
+
+pub returns-in-Err-clause-codes : goal.returns-in-Err-clause-codes
+returns-in-Err-clause-codes g c = unmade (c.in-Err.ensures c.args.self.now.fragments.now.nodes.items c.requires.y) _
+
+pub stepped-requires-clause-suits : goal.stepped-requires-clause-suits
+stepped-requires-clause-suits g c = suits_after (rw c.in-Known.is at c.in-Ok.ensures c.args.self.now.fragments.now.nodes.items c.requires.y) c.requires.suits
+
+pub stepped-requires-clause-x : goal.stepped-requires-clause-x
+stepped-requires-clause-x g c = coded_after (rw c.in-Known.is at c.in-Ok.ensures c.args.self.now.fragments.now.nodes.items c.requires.y) c.args.x.coded c.requires.x
+
+pub stepped-requires-clause-n : goal.stepped-requires-clause-n
+stepped-requires-clause-n g c =
+    let first = rw c.in-Known.is at c.in-Ok.ensures c.args.self.now.fragments.now.nodes.items c.requires.y in
+    coded_after first c.in-Known.value first.there
+
+pub returns-in-Known-clause-codes : goal.returns-in-Known-clause-codes
+returns-in-Known-clause-codes g c =
     let ns = c.args.self.now.fragments.now.nodes.items in
-    described c.stepped_by_number-in-Dec.result c.stepped_by_number-in-Dec.ensures.codes (λ k. ap (λ (f : Builtin). of_two_arguments k f c.args.x.at (coded_in ns c.args.x.coded) c.args.y.at (coded_in ns c.args.y.coded)) (sym c.in-Dec.is))
+    let x = coded_in ns c.args.x.coded in
+    let y = coded_in ns c.args.y.coded in
+    described c.stepped.result
+    (coding_after (λ k. step_number k x c.args.y.at y) (λ v k. gives (stepped k c.args.f x v)) c.stepped.result (rw c.in-Known.is at c.in-Ok.ensures ns c.requires.y) c.stepped.ensures.codes)
+    (λ k. of_number k c.args.f c.args.x.at x c.args.y.at y c.in-Inc.is)
 
 pub returns-in-Incl-clause-codes : goal.returns-in-Incl-clause-codes
 returns-in-Incl-clause-codes g c =
     let ns = c.args.self.now.fragments.now.nodes.items in
-    described c.included.result c.included.ensures.codes (λ k. ap (λ (f : Builtin). of_two_arguments k f c.args.x.at (coded_in ns c.args.x.coded) c.args.y.at (coded_in ns c.args.y.coded)) (sym c.in-Incl.is))
-
-pub returns-in-Excl-clause-codes : goal.returns-in-Excl-clause-codes
-returns-in-Excl-clause-codes g c =
-    let ns = c.args.self.now.fragments.now.nodes.items in
-    described c.included-in-Excl.result c.included-in-Excl.ensures.codes (λ k. ap (λ (f : Builtin). of_two_arguments k f c.args.x.at (coded_in ns c.args.x.coded) c.args.y.at (coded_in ns c.args.y.coded)) (sym c.in-Excl.is))
+    described c.included.result c.included.ensures.codes (λ k. of_element k c.args.f c.args.x.at (coded_in ns c.args.x.coded) c.args.y.at (coded_in ns c.args.y.coded) c.in-Incl.is)
 
 pub returns-in-Val-clause-codes : goal.returns-in-Val-clause-codes
 returns-in-Val-clause-codes g c =

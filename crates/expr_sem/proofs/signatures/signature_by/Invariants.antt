@@ -4,7 +4,7 @@ use Rattle.type_rules.specs.Asks.{Reads}
 use Rattle.type_rules.specs.Forms.{parameters_from}
 use Rattle.type_rules.specs.Scenes.{IsThere, WhereTold, scene_of}
 use Rattle.expr_sem.specs.ArgumentCodes.{parameter_view}
-use Rattle.expr_sem.proofs.signatures.parameters_of.Given as goal
+use Rattle.expr_sem.proofs.signatures.signature_by.Given as goal
 
 -- the parameters so far and those that are left are all
 abbrev pub invariant-parameters : goal.invariant-parameters
@@ -15,7 +15,7 @@ invariant-parameters g l =
       reads : Reads (state l.fn.scopes) (state l.scopes);
       within : l.start ≤ l.form.of.ordinal;
       there : Each (λ p. IsThere f p.of) l.params.items;
-      left : WhereTold f (λ made. map parameter_view l.params.items ++ parameters_from (scene_of f made l.around) l.form.of l.start ≡ parameters_from (scene_of f made l.around) l.form.of l.form.first);
+      left : WhereTold f (λ made. map parameter_view l.params.items ++ parameters_from (scene_of f made l.site.around.now) l.form.of l.start ≡ parameters_from (scene_of f made l.site.around.now) l.form.of l.form.first);
     }
 
 abbrev pub decreases-parameters : goal.decreases-parameters

@@ -1,4 +1,4 @@
-use Rattle.std.proofs.Common.{◌∙◌, ◌∷◌, [], ◌++◌, List, ap, map, subst, sym}
+use Rattle.std.proofs.Common.{◌∙◌, ◌∷◌, [], ◌++◌, List, ap, map, refl, subst, sym}
 use Rattle.m2_base.specs.States.{Frame}
 use Rattle.m2_base.specs.Statics.TypeParts as parts
 use Rattle.type_rules.specs.Forms.{parameters_from}
@@ -12,21 +12,24 @@ use Rattle.type_rules.specs.Forms.{parameters_by}
 use Rattle.type_rules.specs.Scenes.{IsThere}
 use Rattle.expr_sem.specs.declared.arguments.Parameter.{Parameter}
 use Rattle.expr_sem.proofs.CallCases.{last_parameter, next_before, pushed_view}
-use Rattle.expr_sem.proofs.signatures.parameters_of.Goals as goal
+use Rattle.expr_sem.proofs.signatures.signature_by.Goals as goal
 
 pub returns-in-None-clause-told : goal.returns-in-None-clause-told
 returns-in-None-clause-told g c made in_hand told =
     let f = (g.S.Scopes.state c.args.scopes.now).frame in
-    let a = c.args.around.now in
+    let a = c.args.site.now.around.now in
     let at = c.parameters in
     let rest = next_before f (g.S.Scopes.state at.scopes).frame a c.args.form.of at.start c.in-Known.value at.invariant.reads.keeps.frame c.in-Known.ensures.told in
-    last_parameter (map parameter_view at.params.items) (parameters_from (scene_of f made a) c.args.form.of at.start) (parameters_from (scene_of f made a) c.args.form.of c.args.form.first)
-    (rest made in_hand told ∙ ap (parameters_by (scene_of f made a) c.args.form.of) c.in-None.is) (at.invariant.left made in_hand told)
+    record {
+      params = last_parameter (map parameter_view at.params.items) (parameters_from (scene_of f made a) c.args.form.of at.start) (parameters_from (scene_of f made a) c.args.form.of c.args.form.first)
+          (rest made in_hand told ∙ ap (parameters_by (scene_of f made a) c.args.form.of) c.in-None.is) (at.invariant.left made in_hand told);
+      result = refl;
+    }
 
 pub parameters-preserved : goal.parameters-preserved
 parameters-preserved g c =
     let f = (g.S.Scopes.state c.args.scopes.now).frame in
-    let a = c.args.around.now in
+    let a = c.args.site.now.around.now in
     let at = c.parameters in
     let formal = c.in-Some.formal in
     let goes = rw c.in-Some.is at c.in-Known.ensures.goes_on in
@@ -52,11 +55,11 @@ parameters-init g c =
       within = c.requires.form.first;
       there = subst (λ (l : List Parameter). Each (λ p. IsThere f p.of) l) (sym c.new-params.ensures.items) tt;
       left = λ made in_hand told.
-          ap (λ (l : List Parameter). map parameter_view l ++ parameters_from (scene_of f made c.args.around.now) form.of form.first) c.new-params.ensures.items;
+          ap (λ (l : List Parameter). map parameter_view l ++ parameters_from (scene_of f made c.args.site.now.around.now) form.of form.first) c.new-params.ensures.items;
     }
 
 pub next_parameter-requires-clause-suits : goal.next_parameter-requires-clause-suits
-next_parameter-requires-clause-suits g c = Suits_read c.parameters.invariant.reads c.requires.suits
+next_parameter-requires-clause-suits g c = Suits_read c.parameters.invariant.reads c.requires.suits.around
 
 pub next_parameter-requires-clause-there : goal.next_parameter-requires-clause-there
 next_parameter-requires-clause-there g c = IsThere_read c.parameters.invariant.reads c.requires.form.of
@@ -83,4 +86,4 @@ pub returns-in-None-clause-waits : goal.returns-in-None-clause-waits
 returns-in-None-clause-waits g c = tt
 
 pub returns-in-None-clause-there : goal.returns-in-None-clause-there
-returns-in-None-clause-there g c = c.parameters.invariant.there
+returns-in-None-clause-there g c = record { params = c.parameters.invariant.there; result = c.requires.form.result }
