@@ -8,6 +8,8 @@ use Rattle.expr_sem.specs.Stacks.{behind}
 use Rattle.expr_sem.specs.declared.fragments.Form.{Form}
 use Rattle.expr_sem.specs.declared.pieces.Piece.{Piece}
 use Rattle.expr_sem.proofs.PieceParts.{append_step, leaf_on, then_on}
+use Rattle.std.proofs.lemmas.List.{append-nil}
+use Rattle.m2_base.proofs.Kept.{IsPrefixOf-refl}
 use Rattle.expr_sem.proofs.appending.visit.Goals as goal
 use Rattle.std.proofs.lemmas.Int.{to_z-of_z}
 use Rattle.std.specs.Prelude.{IsErr}
@@ -137,3 +139,9 @@ returns-in_ok-push-in-Skip-clause-ok c =
           (subst (λ (i : Instr). Appended a b ws (plain (i ∷ []))) (c.jump.ensures ∙ ap (jump_of connective) (back ∙ c.in-Ok.ensures.1)) (c.in_ok-push_instr-in-Skip.ensures.ok ws))
           ∙ sym (ap (λ (f : Form). ends_as a ws (part_by (parts_after [] ns) f)) c.in-Skip.is);
     }
+
+pub returns-in_ok-push-in-One-clause-begins : goal.returns-in_ok-push-in-One-clause-begins
+returns-in_ok-push-in-One-clause-begins c = record { steps = record { rest = c.in-One.step ∷ []; joined = sym c.in_ok-push-in-One.ensures.items }; bytes = IsPrefixOf-refl _ }
+
+pub returns-in_err-push-in-One-clause-begins : goal.returns-in_err-push-in-One-clause-begins
+returns-in_err-push-in-One-clause-begins c = record { steps = record { rest = []; joined = append-nil _ ∙ sym c.in_err-push-in-One.ensures.items }; bytes = IsPrefixOf-refl _ }

@@ -797,3 +797,126 @@ expression-overflow_cast-value g t c = let small = (form_read c.args.self.now.si
 
 pub expression-overflow_cast-value-in-Char : goal.expression-overflow_cast-value-in-Char
 expression-overflow_cast-value-in-Char g t c = let small = (form_read c.args.self.now.site.now.texts.now.names c.args.e.now _ _ c.in-Char.is (char_seen c.in-Char.value) c.requires.read) in omega (arith, small)
+
+-- ** It still works on what it was lent
+
+pub standard-returns-in-Known-clause-keeps : goal.standard-returns-in-Known-clause-keeps
+standard-returns-in-Known-clause-keeps g t c = Keeps-trans c.expression.ensures.keeps c.of_one_argument.ensures.keeps
+
+pub standard-returns-in-DontKnowYet-asked-2-clause-keeps : goal.standard-returns-in-DontKnowYet-asked-2-clause-keeps
+standard-returns-in-DontKnowYet-asked-2-clause-keeps g t c = Keeps-trans c.expression-in-len2-up.ensures.keeps c.first_of_two.ensures.keeps
+
+pub standard-returns-in-Err-first_of_two-clause-keeps : goal.standard-returns-in-Err-first_of_two-clause-keeps
+standard-returns-in-Err-first_of_two-clause-keeps g t c = Keeps-trans c.expression-in-len2-up.ensures.keeps c.first_of_two.ensures.keeps
+
+pub standard-returns-in-DontKnowYet-asked-3-clause-keeps : goal.standard-returns-in-DontKnowYet-asked-3-clause-keeps
+standard-returns-in-DontKnowYet-asked-3-clause-keeps g t c = Keeps-trans (Keeps-trans c.expression-in-len2-up.ensures.keeps c.first_of_two.ensures.keeps) c.expression-in-len2-up-2.ensures.keeps
+
+pub standard-returns-in-Err-expression-2-clause-keeps : goal.standard-returns-in-Err-expression-2-clause-keeps
+standard-returns-in-Err-expression-2-clause-keeps g t c = Keeps-trans (Keeps-trans c.expression-in-len2-up.ensures.keeps c.first_of_two.ensures.keeps) c.expression-in-len2-up-2.ensures.keeps
+
+pub standard-returns-in-Known-asked-3-clause-keeps : goal.standard-returns-in-Known-asked-3-clause-keeps
+standard-returns-in-Known-asked-3-clause-keeps g t c = Keeps-trans (Keeps-trans (Keeps-trans c.expression-in-len2-up.ensures.keeps c.first_of_two.ensures.keeps) c.expression-in-len2-up-2.ensures.keeps) c.of_two_arguments.ensures.keeps
+
+pub expression-returns-in-Known-clause-keeps : goal.expression-returns-in-Known-clause-keeps
+expression-returns-in-Known-clause-keeps g t c = Keeps-trans c.set_type.ensures.keeps c.set_of-in-Some.ensures.keeps
+
+pub expression-returns-in-Known-asked-clause-keeps : goal.expression-returns-in-Known-asked-clause-keeps
+expression-returns-in-Known-asked-clause-keeps g t c = Keeps-trans c.designated-in-Call.ensures.keeps c.called_with.ensures.keeps
+
+pub expression-returns-in-Known-asked-2-clause-keeps : goal.expression-returns-in-Known-asked-2-clause-keeps
+expression-returns-in-Known-asked-2-clause-keeps g t c = Keeps-trans c.value_of.ensures.keeps c.one_coded.ensures.keeps
+
+pub expression-returns-in-Known-asked-3-clause-keeps : goal.expression-returns-in-Known-asked-3-clause-keeps
+expression-returns-in-Known-asked-3-clause-keeps g t c = Keeps-trans c.value_of-in-Many.ensures.keeps c.continued.ensures.keeps
+
+pub continued-returns-in-DontKnowYet-clause-keeps : goal.continued-returns-in-DontKnowYet-clause-keeps
+continued-returns-in-DontKnowYet-clause-keeps g t c = Keeps-trans c.loop-next.invariant.0 c.value_of.ensures.keeps
+
+pub continued-returns-in-Err-clause-keeps : goal.continued-returns-in-Err-clause-keeps
+continued-returns-in-Err-clause-keeps g t c = Keeps-trans c.loop-next.invariant.0 c.value_of.ensures.keeps
+
+pub continued-returns-in-DontKnowYet-asked-clause-keeps : goal.continued-returns-in-DontKnowYet-asked-clause-keeps
+continued-returns-in-DontKnowYet-asked-clause-keeps g t c = Keeps-trans (Keeps-trans c.loop-next.invariant.0 c.value_of.ensures.keeps) c.two_coded.ensures.keeps
+
+pub continued-returns-in-Err-two_coded-clause-keeps : goal.continued-returns-in-Err-two_coded-clause-keeps
+continued-returns-in-Err-two_coded-clause-keeps g t c = Keeps-trans (Keeps-trans c.loop-next.invariant.0 c.value_of.ensures.keeps) c.two_coded.ensures.keeps
+
+pub indexed-returns-in-DontKnowYet-clause-keeps : goal.indexed-returns-in-DontKnowYet-clause-keeps
+indexed-returns-in-DontKnowYet-clause-keeps g t c = Keeps-trans c.loop-e.invariant.0 c.value_of.ensures.keeps
+
+pub indexed-returns-in-Err-clause-keeps : goal.indexed-returns-in-Err-clause-keeps
+indexed-returns-in-Err-clause-keeps g t c = Keeps-trans c.loop-e.invariant.0 c.value_of.ensures.keeps
+
+pub indexed-returns-in-DontKnowYet-asked-clause-keeps : goal.indexed-returns-in-DontKnowYet-asked-clause-keeps
+indexed-returns-in-DontKnowYet-asked-clause-keeps g t c = Keeps-trans (Keeps-trans c.loop-e.invariant.0 c.value_of.ensures.keeps) c.select_element.ensures.keeps
+
+pub indexed-returns-in-Err-select_element-clause-keeps : goal.indexed-returns-in-Err-select_element-clause-keeps
+indexed-returns-in-Err-select_element-clause-keeps g t c = Keeps-trans (Keeps-trans c.loop-e.invariant.0 c.value_of.ensures.keeps) c.select_element.ensures.keeps
+
+pub next_passed-returns-in-DontKnowYet-asked-clause-keeps : goal.next_passed-returns-in-DontKnowYet-asked-clause-keeps
+next_passed-returns-in-DontKnowYet-asked-clause-keeps g t c = Keeps-trans c.expression.ensures.keeps c.argument.ensures.keeps
+
+pub next_passed-returns-in-Err-argument-clause-keeps : goal.next_passed-returns-in-Err-argument-clause-keeps
+next_passed-returns-in-Err-argument-clause-keeps g t c = Keeps-trans c.expression.ensures.keeps c.argument.ensures.keeps
+
+pub called_with-returns-in-Standard-clause-keeps : goal.called_with-returns-in-Standard-clause-keeps
+called_with-returns-in-Standard-clause-keeps g t c = Keeps-trans c.called.ensures.keeps c.standard.ensures.keeps
+
+pub called_with-returns-in-DontKnowYet-asked-clause-keeps : goal.called_with-returns-in-DontKnowYet-asked-clause-keeps
+called_with-returns-in-DontKnowYet-asked-clause-keeps g t c = Keeps-trans c.called.ensures.keeps c.passed.ensures.keeps
+
+pub called_with-returns-in-Err-passed-clause-keeps : goal.called_with-returns-in-Err-passed-clause-keeps
+called_with-returns-in-Err-passed-clause-keeps g t c = Keeps-trans c.called.ensures.keeps c.passed.ensures.keeps
+
+pub called_with-returns-in-Procedure-clause-keeps : goal.called_with-returns-in-Procedure-clause-keeps
+called_with-returns-in-Procedure-clause-keeps g t c = Keeps-trans (Keeps-trans c.called.ensures.keeps c.passed.ensures.keeps) c.call_coded.ensures.keeps
+
+pub called_with-returns-in-DontKnowYet-asked-2-clause-keeps : goal.called_with-returns-in-DontKnowYet-asked-2-clause-keeps
+called_with-returns-in-DontKnowYet-asked-2-clause-keeps g t c = Keeps-trans c.called.ensures.keeps c.passed-in-Lacking.ensures.keeps
+
+pub called_with-returns-in-Err-passed-2-clause-keeps : goal.called_with-returns-in-Err-passed-2-clause-keeps
+called_with-returns-in-Err-passed-2-clause-keeps g t c = Keeps-trans c.called.ensures.keeps c.passed-in-Lacking.ensures.keeps
+
+pub called_with-returns-in-Lacking-clause-keeps : goal.called_with-returns-in-Lacking-clause-keeps
+called_with-returns-in-Lacking-clause-keeps g t c = Keeps-trans c.called.ensures.keeps c.passed-in-Lacking.ensures.keeps
+
+pub called_with-returns-clause-keeps : goal.called_with-returns-clause-keeps
+called_with-returns-clause-keeps g t c = Keeps-trans c.called.ensures.keeps c.looked_at.ensures.keeps
+
+pub element-returns-in-None-clause-keeps : goal.element-returns-in-None-clause-keeps
+element-returns-in-None-clause-keeps g t c = Keeps-trans c.member.ensures.keeps c.add_element.ensures.keeps
+
+pub element-returns-in-Some-clause-keeps : goal.element-returns-in-Some-clause-keeps
+element-returns-in-Some-clause-keeps g t c = Keeps-trans c.member.ensures.keeps c.range_to.ensures.keeps
+
+pub range_to-returns-clause-keeps : goal.range_to-returns-clause-keeps
+range_to-returns-clause-keeps g t c = Keeps-trans c.member.ensures.keeps c.add_range.ensures.keeps
+
+pub designated-returns-in-DontKnowYet-asked-clause-keeps : goal.designated-returns-in-DontKnowYet-asked-clause-keeps
+designated-returns-in-DontKnowYet-asked-clause-keeps g t c = Keeps-trans c.loop-selector.invariant.0 c.select.ensures.keeps
+
+pub designated-returns-in-Err-select-clause-keeps : goal.designated-returns-in-Err-select-clause-keeps
+designated-returns-in-Err-select-clause-keeps g t c = Keeps-trans c.loop-selector.invariant.0 c.select.ensures.keeps
+
+pub elements-returns-in-DontKnowYet-clause-keeps : goal.elements-returns-in-DontKnowYet-clause-keeps
+elements-returns-in-DontKnowYet-clause-keeps g t c = Keeps-trans c.loop-label.invariant.0 c.element.ensures.keeps
+
+pub elements-returns-in-Err-clause-keeps : goal.elements-returns-in-Err-clause-keeps
+elements-returns-in-Err-clause-keeps g t c = Keeps-trans c.loop-label.invariant.0 c.element.ensures.keeps
+
+pub passed-returns-in-DontKnowYet-clause-keeps : goal.passed-returns-in-DontKnowYet-clause-keeps
+passed-returns-in-DontKnowYet-clause-keeps g t c = Keeps-trans c.loop-e.invariant.0 c.next_passed.ensures.keeps
+
+pub passed-returns-in-Err-clause-keeps : goal.passed-returns-in-Err-clause-keeps
+passed-returns-in-Err-clause-keeps g t c = Keeps-trans c.loop-e.invariant.0 c.next_passed.ensures.keeps
+
+pub looked_at-returns-in-DontKnowYet-clause-keeps : goal.looked_at-returns-in-DontKnowYet-clause-keeps
+looked_at-returns-in-DontKnowYet-clause-keeps g t c = Keeps-trans c.loop-e.invariant.0 c.expression.ensures.keeps
+
+pub looked_at-returns-in-Err-clause-keeps : goal.looked_at-returns-in-Err-clause-keeps
+looked_at-returns-in-Err-clause-keeps g t c = Keeps-trans c.loop-e.invariant.0 c.expression.ensures.keeps
+
+pub next_passed-returns-in-Known-asked-clause-keeps : goal.next_passed-returns-in-Known-asked-clause-keeps
+next_passed-returns-in-Known-asked-clause-keeps g t c =
+    let k = Keeps-trans c.expression.ensures.keeps c.argument.ensures.keeps in record { site = k.site; withs = k.withs; scopes = k.scopes; fragments = k.fragments; notes = k.notes }

@@ -8,6 +8,7 @@ use Rattle.expr_sem.specs.RecordFields.{field_coded, name_coded as spec_name}
 use Rattle.expr_sem.proofs.Making.{after_question, question_failed, question_waits}
 use Rattle.expr_sem.proofs.Operating.{described}
 use Rattle.expr_sem.proofs.Selecting.{grown, grown_wanted, name_given}
+use Rattle.const_eval.proofs.Later.{SuitsSite_read}
 use Rattle.expr_sem.proofs.coder.Coder.name_coded.Goals as goal
 
 pub returns-in-DontKnowYet-clause-codes : goal.returns-in-DontKnowYet-clause-codes
@@ -36,3 +37,9 @@ pub returns-in-None-clause-codes : goal.returns-in-None-clause-codes
 returns-in-None-clause-codes g c =
     after_question c.name_used.result c.field_of_withs.ensures.reads c.name_used.ensures.codes
     (λ made in_hand told. name_given (context_of (g.S.Scopes.state c.args.self.now.scopes.now).frame made c.args.self.now.site.now) c.args.ident (with_types c.args.self.now.withs.now) None (sym c.in-None.is ∙ c.in-Known.ensures.told made in_hand told))
+
+pub field_coded-requires-clause-suits : goal.field_coded-requires-clause-suits
+field_coded-requires-clause-suits g c = SuitsSite_read c.field_of_withs.ensures.reads c.requires.suits
+
+pub name_used-requires-clause-suits : goal.name_used-requires-clause-suits
+name_used-requires-clause-suits g c = SuitsSite_read c.field_of_withs.ensures.reads c.requires.suits

@@ -11,6 +11,7 @@ use Rattle.const_eval.specs.Analyses.{Analysed}
 use Rattle.expr_sem.specs.Variables.{entry_coded}
 use Rattle.expr_sem.proofs.Operating.{coding_after, of_analysed}
 use Rattle.expr_sem.proofs.Sequencing.{Grows-refl}
+use Rattle.type_rules.specs.Sites.{SuitsSite}
 use Rattle.expr_sem.proofs.coder.Coder.name_used.Goals as goal
 
 pub entry_coded-requires-clause-entry : goal.entry_coded-requires-clause-entry
@@ -37,3 +38,6 @@ returns-clause-codes g c =
     } in
     coding_after (λ k. use_of k c.args.within c.args.ident.name c.args.ident.at) (λ e k. gives (entry_coded k e)) c.entry_coded.result
     (of_analysed c.args.self.now.fragments.now.nodes.items (Ok (Known c.in-Known.value)) first) (c.entry_coded.ensures c.use_name.new.notes)
+
+pub entry_coded-requires-clause-suits : goal.entry_coded-requires-clause-suits
+entry_coded-requires-clause-suits g c = subst (λ (f : Frame). SuitsSite f c.args.self.now.site.now) (sym c.use_name.ensures.works.keeps.frame) c.requires.suits

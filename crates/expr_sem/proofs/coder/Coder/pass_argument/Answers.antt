@@ -131,3 +131,9 @@ returns-else-p-clause-codes g c =
     (λ made in_hand told. let k = context_of f made c.args.self.now.site.now in
     mode_value k p c.args.x.at x c.in-Known-stand.value.1 c.in_default.not-OpenArray (kind made in_hand told) c.if-p.false
     ∙ mode_taken k p c.args.x.at x (sym c.is_bad.ensures ∙ c.if-is_bad.false) (sym (c.in-Known.ensures.told made in_hand told) ∙ c.if-value.false) (sym c.refuses.ensures ∙ c.if-refuses.false))
+
+pub by_address-requires-clause-suits : goal.by_address-requires-clause-suits
+by_address-requires-clause-suits g c = SuitsSite_read (Reads-trans c.is_in_error.ensures.reads c.stand.ensures.reads) c.requires.suits
+
+pub returns-in-DontKnowYet-clause-codes : goal.returns-in-DontKnowYet-clause-codes
+returns-in-DontKnowYet-clause-codes g c = question_waits _ _ c.is_in_error.ensures.reads c.in-DontKnowYet.ensures.waits

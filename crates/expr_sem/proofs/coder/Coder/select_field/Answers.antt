@@ -13,6 +13,7 @@ use Rattle.expr_sem.specs.Selections.{IsField}
 use Rattle.expr_sem.proofs.Making.{after_question, question_waits}
 use Rattle.expr_sem.proofs.Operating.{described}
 use Rattle.expr_sem.proofs.Selecting.{error_alone, no_field, no_record, stays_read}
+use Rattle.const_eval.proofs.Later.{SuitsSite_read}
 use Rattle.expr_sem.proofs.coder.Coder.select_field.Goals as goal
 
 pub returns-in-ModuleName-clause-codes : goal.returns-in-ModuleName-clause-codes
@@ -74,3 +75,6 @@ pub returns-in_default-clause-codes : goal.returns-in_default-clause-codes
 returns-in_default-clause-codes g c =
     described c.refused-in_default.result (c.refused-in_default.ensures (g.S.Scopes.state c.args.self.now.scopes.now) _)
     (λ k. no_field k c.args.first c.args.at c.args.ident (part c.args.self.now.fragments.now.nodes.items c.args.x.code) c.args.x.operand c.in_default.not-ModuleName c.in_default.not-Variable c.in_default.not-InError c.in_default.not-NotConstant)
+
+pub field_coded-requires-clause-suits : goal.field_coded-requires-clause-suits
+field_coded-requires-clause-suits g c = SuitsSite_read (Reads-trans c.stand.ensures.reads c.field_of.ensures.reads) c.requires.suits
