@@ -62,3 +62,6 @@ returns-in_default-clause-told g c made in_hand told =
 
 pub returns-in_default-clause-there : goal.returns-in_default-clause-there
 returns-in_default-clause-there g c = standard_there c.requires.suits 10
+
+pub returns-in_default-clause-waits : goal.returns-in_default-clause-waits
+returns-in_default-clause-waits g c = tt

@@ -62,3 +62,12 @@ returns-else-eq-clause-told g c made in_hand told =
 
 pub returns-else-eq-clause-there : goal.returns-else-eq-clause-there
 returns-else-eq-clause-there g c = c.requires.operand
+
+pub returns-then-not-is_one_char-clause-waits : goal.returns-then-not-is_one_char-clause-waits
+returns-then-not-is_one_char-clause-waits g c = tt
+
+pub returns-then-eq-clause-waits : goal.returns-then-eq-clause-waits
+returns-then-eq-clause-waits g c = tt
+
+pub returns-else-eq-clause-waits : goal.returns-else-eq-clause-waits
+returns-else-eq-clause-waits g c = tt

@@ -106,3 +106,9 @@ pub returns-in_default-matches-clause-told : goal.returns-in_default-matches-cla
 returns-in_default-matches-clause-told g c made in_hand told =
     let scene = scene_of (g.S.Scopes.state c.args.scopes.now).frame made c.args.site.now.around.now in
     no_pointer c.in-Known-stand-2.value.1 c.in_default-matches.not-Pointer ∙ ap is_pointer_type (c.in-Known-stand-2.ensures.kind made in_hand told) ∙ ap (λ (w : Wanted). spec_wanted scene w c.args.of) (sym c.in-Pointer.is)
+
+pub returns-in_default-clause-waits : goal.returns-in_default-clause-waits
+returns-in_default-clause-waits g c = tt
+
+pub returns-in_default-matches-clause-waits : goal.returns-in_default-matches-clause-waits
+returns-in_default-matches-clause-waits g c = tt

@@ -137,3 +137,9 @@ by_address-requires-clause-suits g c = SuitsSite_read (Reads-trans c.is_in_error
 
 pub returns-in-DontKnowYet-clause-codes : goal.returns-in-DontKnowYet-clause-codes
 returns-in-DontKnowYet-clause-codes g c = question_waits _ _ c.is_in_error.ensures.reads c.in-DontKnowYet.ensures.waits
+
+pub by_address-requires-clause-of : goal.by_address-requires-clause-of
+by_address-requires-clause-of g c = IsThere_read (Reads-trans c.is_in_error.ensures.reads c.stand.ensures.reads) c.requires.p
+
+pub by_value-requires-clause-of : goal.by_value-requires-clause-of
+by_value-requires-clause-of g c = IsThere_read (Reads-trans c.is_in_error.ensures.reads c.stand.ensures.reads) c.requires.p

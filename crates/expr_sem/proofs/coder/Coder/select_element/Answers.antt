@@ -16,6 +16,7 @@ use Rattle.expr_sem.proofs.Operating.{coded_later, coding_after, described, stay
 use Rattle.expr_sem.proofs.Selecting.{error_alone, no_array, no_element}
 use Rattle.expr_sem.proofs.Sequencing.{Grows-refl}
 use Rattle.expr_sem.proofs.Walking.{stands_after}
+use Rattle.expr_sem.proofs.Coders.{Keeps-trans}
 use Rattle.expr_sem.proofs.coder.Coder.select_element.Goals as goal
 
 pub stand-requires-clause-suits : goal.stand-requires-clause-suits
@@ -129,3 +130,9 @@ returns-in_default-clause-codes g c =
     let ns = c.args.self.now.fragments.now.nodes.items in
     described c.refused-in_default.result (c.refused-in_default.ensures (g.S.Scopes.state c.args.self.now.scopes.now) _)
     (λ k. no_element k c.args.first c.args.at c.args.index.at (coded_in ns c.args.index.coded) (coded_in ns c.args.x) c.args.x.operand c.in_default.not-Variable c.in_default.not-InError c.in_default.not-NotConstant)
+
+pub returns-in-Known-asked-clause-keeps : goal.returns-in-Known-asked-clause-keeps
+returns-in-Known-asked-clause-keeps g c = let k = Keeps-trans c.assigned_to.ensures.keeps c.element_of_array.ensures.keeps in record { site = k.site; withs = k.withs; scopes = k.scopes; fragments = k.fragments; notes = k.notes }
+
+pub returns-in-Known-asked-2-clause-keeps : goal.returns-in-Known-asked-2-clause-keeps
+returns-in-Known-asked-2-clause-keeps g c = let k = Keeps-trans c.assigned_to-in-OpenArray.ensures.keeps c.element_of_open.ensures.keeps in record { site = k.site; withs = k.withs; scopes = k.scopes; fragments = k.fragments; notes = k.notes }
