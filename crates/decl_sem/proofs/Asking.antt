@@ -9,6 +9,7 @@ use Rattle.m2_base.specs.Statics.Diagnostics.{wrong_index}
 use Rattle.m2_base.specs.Statics.Makes.{Makes, makes, only_gives}
 use Rattle.m2_base.specs.Statics.Shapes.{Shape}
 use Rattle.m2_base.specs.Statics.Types.{kind_of, stands_for}
+use Rattle.m2_base.specs.declared.replies.Head.{Head}
 use Rattle.m2_base.specs.declared.memory.Memory.{Memory}
 use Rattle.m2_base.specs.declared.replies.Ask.{Ask}
 use Rattle.m2_base.specs.declared.replies.Ask.TheVariants.{DontKnowYet, Known}
@@ -23,7 +24,7 @@ use Rattle.decl_sem.specs.Pieces.{Declares, IsAny, IsBehind, IsMaking, IsNewMean
 use Rattle.decl_sem.specs.Stood.{stood_in}
 use Rattle.decl_sem.specs.declared.making.Made.{Made}
 use Rattle.decl_sem.proofs.OneRows.{before_next, small_scope}
-use Rattle.decl_sem.proofs.Pieces.{asked, asked_then}
+use Rattle.decl_sem.proofs.Pieces.{asked, asked_then, waiting}
 
 -- an answer, as it is known
 pub first_made : {T : Type 0} {a b : State} {x y : Made} {s : Site} {ss : List Shape} {P : Frame → ℕ → T → Type 0} {g : Context → Makes T} {result : Result (Ask T) Memory} {asked : Ask T} {v : T} → result ≡ Ok asked → asked ≡ Known v
@@ -45,6 +46,10 @@ module _ {a b : State} (reads : Reads a b) where
 
   pub behind_read : {next : ℕ} {p : Place} → IsBehind a.frame next p → IsBehind b.frame next p
   behind_read {next} {p} h = subst (λ (f : Frame). IsBehind f next p) (sym reads.keeps.frame) h
+
+-- a question whose answer isn't known yet
+pub asked_waits : {T : Type 0} {a b : State} {x : Made} {s : Site} {ts : List Shape} {P : Frame → ℕ → T → Type 0} {h : Context → Makes T} (head : Head) → Reads a b → Waits a b head → Declares a b x x s (Ok (DontKnowYet head)) ts P h
+asked_waits {x = x} {s = s} head reads waits = waiting (asked x s (DontKnowYet head) IsAny (λ c. c) reads waits (λ hand in_hand told same. tt) tt)
 
 -- what a type stands for
 pub stood_piece : {a b : State} (x : Made) (s : Site) (answer : Ask (Place × RowMeaning)) (t : Place) → Reads a b → WhereWaiting answer (λ head. Waits a b head)

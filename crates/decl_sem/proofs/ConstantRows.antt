@@ -1,7 +1,7 @@
 -- What the rows of constants and of types' names say is right.
 use Rattle.std.specs.Prelude.{◌≡◌, ℕ, ℤ, ◌<◌, ◌^◌, pos, List, [], ◌∷◌, ◌++◌, length, Option, None, Some, Result, Ok}
 use Rattle.std.proofs.Common.{refl, sym, ap, subst, arith}
-use Rattle.m2_base.specs.Rows.{IsValue, const_kind, natural, opaque_kind, type_name_kind}
+use Rattle.m2_base.specs.Rows.{HasSmallNumbers, HasSmallOrdinals, IsValue, const_kind, natural, opaque_kind, type_name_kind}
 use Rattle.m2_base.specs.Standard.{broken, text_type}
 use Rattle.m2_base.specs.States.{Frame, State}
 use Rattle.m2_base.specs.Statics.Constants.{constant_of}
@@ -11,9 +11,11 @@ use Rattle.m2_base.specs.Statics.Shapes.{Shape, named, type_item_shapes}
 use Rattle.m2_base.specs.Trees.{Expr, TypeExpr}
 use Rattle.m2_base.specs.declared.memory.Memory.{Memory}
 use Rattle.m2_base.specs.declared.operands.Operand.{Operand}
+use Rattle.m2_base.specs.declared.operands.Operand.TheVariants.{Computed, Constant, InError, ModuleName, NamedType, NotConstant, Procedure, StandardProcedure, StringConstant, Variable}
 use Rattle.m2_base.specs.declared.replies.Ask.{Ask}
 use Rattle.m2_base.specs.declared.replies.Ask.TheVariants.{Known}
 use Rattle.m2_base.specs.declared.rows.Place.{Place}
+use Rattle.m2_base.specs.declared.rows.RowMeaning.{RowMeaning}
 use Rattle.m2_base.specs.declared.rows.RowMeaning.TheVariants.{Const, Opaque, TypeName}
 use Rattle.m2_base.specs.declared.sites.Site.{Site}
 use Rattle.m2_base.specs.declared.trees.Ident.{Ident}
@@ -24,11 +26,11 @@ use Rattle.const_eval.specs.Analyses.{Analysed}
 use Rattle.const_eval.specs.NamedTexts.{IsNamedText}
 use Rattle.const_eval.specs.Sites.{IsOperand}
 use Rattle.decl_sem.specs.Making.{next_ordinal}
-use Rattle.decl_sem.specs.Pieces.{Declares, IsBehind, IsMaking, IsNewMeaning}
+use Rattle.decl_sem.specs.Pieces.{Declares, IsBehind, IsMaking, IsNewMeaning, kind_number}
 use Rattle.decl_sem.specs.declared.making.Made.{Made}
 use Rattle.decl_sem.proofs.NoTypeNames.{types_name_none}
 use Rattle.decl_sem.proofs.OneRows.{before_next, small_scope}
-use Rattle.decl_sem.proofs.Pieces.{AreNoTypes, analysed, then_after}
+use Rattle.decl_sem.proofs.Pieces.{AreNoTypes, analysed, making_on, then_after}
 
 -- a type that can be asked for stands before the next row
 pub behind_there : {f : Frame} {s : Site} {x : Made} {ss : List Shape} (t : Place) → IsMaking f s x ss → t.ordinal < 2 ^ 32 → IsThere f t → IsBehind f (next_ordinal x) t
@@ -81,14 +83,44 @@ opaque_meaning f s o = record { small = tt; scopes = tt; fits = tt; filled = tt;
 abbrev pub IsForRow : Frame → Option Operand → Type 0
 IsForRow f o = IfSome o (λ operand. IsOperand f operand × IsNamedText f operand)
 
--- the row of a constant, after its value
-pub constant_row : {a b d : State} {x y z : Made} {s : Site} {o : Option Operand} (name : Ident) (e : Expr) (answer : Result (Ask Place) Memory) → IsMaking a.frame s x (named const_kind name ∷ []) → y.rows ≡ x.rows → y.first ≡ x.first
-    → Analysed a b x.notes y.notes s (Ok (Known o)) IsForRow (λ c. constant_of c e)
-    → Declares b d y z s answer (named const_kind name ∷ []) IsBehind (λ c. makes_named c name.name name.at (const_meaning o))
-    → Declares a d x z s answer (named const_kind name ∷ []) IsBehind (λ c. const_rows c name e)
-constant_row {a} {b} {x = x} {y = y} {s = s} {o = o} name e answer making rows first analysis piece =
-    let value : Declares a b x y s (Ok (Known o)) [] (λ f next v. IsForRow f v) (λ c. only_gives (constant_of c e)) = analysed (Ok (Known o)) making rows first (λ v h. h) analysis in
-    then_after (λ c. only_gives (constant_of c e)) (λ o c. makes_named c name.name name.at (const_meaning o)) answer tt making value piece
+-- what the row of a constant says is right
+pub constant_meaning : {f : Frame} {s : Site} {x : Made} {ss : List Shape} (o : Option Operand) (m : RowMeaning) → m ≡ const_meaning o → HasSmallOrdinals m → HasSmallNumbers m → IsMaking f s x ss → IsForRow f o → IsNewMeaning f s (next_ordinal x) m
+constant_meaning {f} {s} {x} o m e ordinals numbers making known =
+    subst (λ (n : RowMeaning). IsNewMeaning f s (next_ordinal x) n) (sym e) (go o (subst HasSmallOrdinals e ordinals) (subst HasSmallNumbers e numbers) known)
+  where
+    go : (o : Option Operand) → HasSmallOrdinals (const_meaning o) → HasSmallNumbers (const_meaning o) → IsForRow f o → IsNewMeaning f s (next_ordinal x) (const_meaning o)
+    go (Some (Constant t v)) small numbers known = value_meaning t v v refl making small known.0.0 known.0.1 known.1
+    go (Some (StringConstant n l)) small numbers known = string_meaning n l (pos n) refl making known.0 numbers
+    go (Some (Computed t)) small numbers known = broken_meaning making
+    go (Some (Variable t)) small numbers known = broken_meaning making
+    go (Some (NamedType t)) small numbers known = broken_meaning making
+    go (Some (Procedure n t k l)) small numbers known = broken_meaning making
+    go (Some (StandardProcedure n)) small numbers known = broken_meaning making
+    go (Some (ModuleName n)) small numbers known = broken_meaning making
+    go (Some NotConstant) small numbers known = broken_meaning making
+    go (Some InError) small numbers known = broken_meaning making
+    go None small numbers known = broken_meaning making
+
+module _ {a b : State} {x y : Made} {s : Site} {o : Option Operand} (name : Ident) (e : Expr) (making : IsMaking a.frame s x (named const_kind name ∷ [])) (rows : y.rows ≡ x.rows) (first : y.first ≡ x.first) (value : Analysed a b x.notes y.notes s (Ok (Known o)) IsForRow (λ c. constant_of c e)) where
+  -- the value of a constant
+  valued : Declares a b x y s (Ok (Known o)) [] (λ f next v. IsForRow f v) (λ c. only_gives (constant_of c e))
+  valued = analysed (Ok (Known o)) making rows first (λ v h. h) value
+
+  -- what its row needs, after that
+  pub constant_making : (m : RowMeaning) → kind_number m ≡ const_kind → IsMaking b.frame s y (named (kind_number m) name ∷ [])
+  constant_making m kind = subst (λ (k : ℕ). IsMaking b.frame s y (named k name ∷ [])) (sym kind) (making_on {ss = []} {ts = named const_kind name ∷ []} tt making valued)
+
+  pub constant_known : IsForRow b.frame o
+  constant_known = subst (λ (f : Frame). IsForRow f o) (sym valued.works.keeps.frame) valued.there
+
+  -- the row
+  pub constant_row : {d : State} {z : Made} (m : RowMeaning) (answer : Result (Ask Place) Memory) → m ≡ const_meaning o → kind_number m ≡ const_kind
+      → Declares b d y z s answer (named (kind_number m) name ∷ []) IsBehind (λ c. makes_named c name.name name.at m)
+      → Declares a d x z s answer (named const_kind name ∷ []) IsBehind (λ c. const_rows c name e)
+  constant_row {d} {z} m answer same kind piece =
+      then_after (λ c. only_gives (constant_of c e)) (λ o c. makes_named c name.name name.at (const_meaning o)) answer tt making valued
+      (subst (λ (k : ℕ). Declares b d y z s answer (named k name ∷ []) IsBehind (λ c. makes_named c name.name name.at (const_meaning o))) kind
+      (subst (λ (n : RowMeaning). Declares b d y z s answer (named (kind_number m) name ∷ []) IsBehind (λ c. makes_named c name.name name.at n)) same piece))
 
 -- none of a declared type's rows is that of a type's name
 pub declared_names_none : (name : Ident) (typ : Option TypeExpr) → AreNoTypes (type_item_shapes name typ)

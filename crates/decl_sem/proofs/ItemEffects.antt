@@ -21,7 +21,8 @@ use Rattle.type_rules.specs.Sites.{context_of}
 use Rattle.decl_sem.specs.Brought.{DeclaresWith}
 use Rattle.decl_sem.specs.Items.{IsEffectOf, IsLoneEffect}
 use Rattle.decl_sem.specs.Making.{next_ordinal}
-use Rattle.decl_sem.specs.Pieces.{Declares}
+use Rattle.m2_base.specs.Statics.ReadTrees.{IsReadItem}
+use Rattle.decl_sem.specs.Pieces.{Declares, IsMaking}
 use Rattle.decl_sem.specs.declared.making.Made.{Made}
 use Rattle.decl_sem.proofs.BroughtRows.{bringing_failed, bringing_none, bringing_waits}
 
@@ -58,3 +59,15 @@ pub alone_of : {a b : State} {m n : Made} {s : Site} (kind : StreamKind) (cell :
     → DeclaresWith a b m n s answer (item_shapes y) (λ e. e.brought) (IsEffectOf y) (λ c. declare c kind y cell)
 alone_of {a} {b} {m} {n} {s} kind cell x y same answer p =
     subst (λ (z : items.Item). DeclaresWith a b m n s answer (item_shapes z) (λ e. e.brought) (IsEffectOf z) (λ c. declare c kind z cell)) same (alone_as x answer p)
+
+module _ {x y : items.Item} (same : x ≡ y) where
+  pub item_making : {f : Frame} {s : Site} {m : Made} → IsMaking f s m (item_shapes x) → IsMaking f s m (item_shapes y)
+  item_making {f} {s} {m} making = subst (λ (z : items.Item). IsMaking f s m (item_shapes z)) same making
+
+  pub item_read : (names : List (List ℕ)) → IsReadItem names x → IsReadItem names y
+  item_read names read = subst (λ (z : items.Item). IsReadItem names z) same read
+
+  pub item_made : {a b : State} {m n : Made} {s : Site} (kind : StreamKind) (cell : ℕ) (answer : Result (Ask Effect) Memory)
+      → Declares a b m n s answer (item_shapes y) IsLoneEffect (λ c. declare c kind y cell)
+      → Declares a b m n s answer (item_shapes x) IsLoneEffect (λ c. declare c kind x cell)
+  item_made {a} {b} {m} {n} {s} kind cell answer p = subst (λ (z : items.Item). Declares a b m n s answer (item_shapes z) IsLoneEffect (λ c. declare c kind z cell)) (sym same) p

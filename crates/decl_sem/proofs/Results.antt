@@ -52,3 +52,8 @@ named_result {a} {s = s} q answer making p r =
     described answer (λ c. only_gives (result_type c (Some q))) (then_after (λ c. only_gives (type_of_qual c q)) (λ t c. only_gives (checked_result c q.first.at t)) answer tt making p r)
     (λ hand in_hand told same. let c = context_of a.frame hand s in
     ap (λ (k : Context). let g = type_of_qual c q in only_gives (and_then g (λ t. checked_result k q.first.at t))) (hand_none hand making.suits told))
+
+-- a result that is named, as an option
+pub some_result : {a b : State} {x y : Made} {s : Site} {o : Option Qual} {q : Qual} (answer : Result (Ask (Option Place)) Memory) → o ≡ Some q → Declares a b x y s answer [] IsOptionBehind (λ c. only_gives (result_type c (Some q)))
+    → Declares a b x y s answer [] IsOptionBehind (λ c. only_gives (result_type c o))
+some_result {a} {b} {x} {y} {s} answer is p = subst (λ (o : Option Qual). Declares a b x y s answer [] IsOptionBehind (λ c. only_gives (result_type c o))) (sym is) p

@@ -6,7 +6,7 @@ use Rattle.std.proofs.lemmas.List.{append-nil}
 use Rattle.m2_base.specs.Lists.{Each}
 use Rattle.m2_base.specs.Rows.{row_meaning, row_of, type_name_kind, var_kind}
 use Rattle.m2_base.specs.Standard.{is_standard}
-use Rattle.m2_base.specs.States.{Frame, State, Waits}
+use Rattle.m2_base.specs.States.{Frame, State}
 use Rattle.m2_base.specs.Statics.Cells.{capped, most_cells}
 use Rattle.m2_base.specs.Statics.Contexts.{Context, Scene, diag}
 use Rattle.m2_base.specs.Statics.Diagnostics.{declared_twice, standard_declared}
@@ -17,8 +17,7 @@ use Rattle.m2_base.specs.Statics.Shapes.{Shape, named}
 use Rattle.m2_base.specs.Statics.Types.{size_of}
 use Rattle.m2_base.specs.declared.memory.Memory.{Memory}
 use Rattle.m2_base.specs.declared.replies.Ask.{Ask}
-use Rattle.m2_base.specs.declared.replies.Ask.TheVariants.{Known, DontKnowYet}
-use Rattle.m2_base.specs.declared.replies.Head.{Head}
+use Rattle.m2_base.specs.declared.replies.Ask.TheVariants.{Known}
 use Rattle.m2_base.specs.declared.rows.Mode.TheVariants.{Plain}
 use Rattle.m2_base.specs.declared.rows.Place.{Place}
 use Rattle.m2_base.specs.declared.rows.Row.{Row}
@@ -37,7 +36,7 @@ use Rattle.decl_sem.specs.Variables.{IsCell, sized_rows}
 use Rattle.decl_sem.specs.declared.making.Made.{Made}
 use Rattle.decl_sem.proofs.Hands.{hand_with}
 use Rattle.decl_sem.proofs.OneRows.{before_next, behind_more, small_scope}
-use Rattle.decl_sem.proofs.Pieces.{GoesOn, asked, asked_then, described, goes_as, goes_end, goes_failed, goes_start, goes_step, making_front, next_on, waiting}
+use Rattle.decl_sem.proofs.Pieces.{GoesOn, asked, asked_then, described, goes_as, goes_end, goes_failed, goes_start, goes_step, making_front, next_on}
 
 -- the shapes of variables
 abbrev pub shapes : List Ident → List Shape
@@ -187,7 +186,3 @@ of_this_size {a} {b} {x} {z} {s} t cell names size answer making reads is piece 
     let has = has_size t size making is hand in_hand told same in
     let one : size ≡ size_of c.scene t = is hand in_hand told same [] tt ∙ ap (λ (rows : List Row). size_of (context_of a.frame (record { finished = hand.finished; rows = rows }) s).scene t) (append-nil hand.rows) in
     sized names c t (size_of c.scene t) cell (subst (λ (n : ℕ). HasSize c t n) one has))
-
-pub size_waits : {a b : State} {x : Made} {s : Site} {ts : List Shape} {h : Context → Makes ℕ} (t : Place) (head : Head) → Reads a b → Waits a b head → Declares a b x x s (Ok (DontKnowYet head)) ts IsCell h
-size_waits {a} {b} {x} {s} t head reads waits =
-    waiting (asked x s (DontKnowYet head) IsAny (λ c. size_of c.scene t) reads waits (λ hand in_hand told same. tt) tt)

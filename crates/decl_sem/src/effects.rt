@@ -7,7 +7,7 @@ use std::alloc::Global;
 use std::marker::Model;
 
 /// What a procedure's body copies first.
-#[derive(Clone, Copy, Debug, PartialEq, Eq)]
+#[derive(Clone, Copy)]
 pub enum ParamCopy {
     /// A structured value parameter, whose address is in a cell, into cells of its own.
     Own(u32, u32, u32),

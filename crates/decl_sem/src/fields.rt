@@ -8,11 +8,10 @@ ghost use Rattle.m2_base.specs.States.{State};
 ghost use Rattle.m2_base.specs.Statics.Cells.{most_cells};
 ghost use Rattle.m2_base.specs.Statics.Contexts.{refuse as refuses};
 ghost use Rattle.m2_base.specs.Statics.Diagnostics.{declared_twice, wrong_operands};
-ghost use Rattle.m2_base.specs.Statics.Fields.{checked_tag as spec_checked, field_row, plain_rows, tag_rows, tag_type};
+ghost use Rattle.m2_base.specs.Statics.Fields.{field_row, plain_rows, tag_rows, tag_type};
 ghost use Rattle.m2_base.specs.Statics.Makes.{only_gives};
 ghost use Rattle.m2_base.specs.Statics.ReadTrees.{AreReadNames, IsReadName, IsReadOption, IsReadQual};
 ghost use Rattle.m2_base.specs.Statics.Shapes.{nameless, tag_shapes};
-ghost use Rattle.m2_base.specs.Statics.TypeNames.{type_of_qual as spec_type_of};
 ghost use Rattle.decl_sem.specs.FieldNotes.{sized_fields};
 ghost use Rattle.decl_sem.specs.Making.{diag_in, next_ordinal};
 ghost use Rattle.decl_sem.specs.Pieces.{Declares, IsBehind, IsMaking, item_end, known_of};
@@ -147,42 +146,6 @@ fn keep_tag(site: &Site, at: u32, wrong: bool, of: Place, made: &mut Made) -> Re
     Ok(of)
 }
 
-/// A tag's type is ordinal.
-fn checked_tag<S: Scopes>(
-    scopes: &mut S,
-    site: &Site,
-    at: u32,
-    of: Place,
-    made: &mut Made,
-) -> Result<Ask<Place>, Memory>
-    requires making { IsMaking (S.state scopes.old).frame site.now made.old [] }
-    requires there { IsTagType (S.state scopes.old).frame (next_ordinal made.old) of }
-    ensures { Declares (S.state scopes.old) (S.state scopes.new) made.old made.new site.now result [] IsTagType
-        (λ c. only_gives (spec_checked c at of)) }
-{
-    let stood = asked!(stand_in(scopes, site, made, of));
-    let wrong = is_no_tag(stood);
-    let tag = put!(keep_tag(site, at, wrong, of, made));
-    Ok(Ask::Known(tag))
-}
-
-/// The type that a variant part names for its tag.
-fn named_tag<S: Scopes>(
-    scopes: &mut S,
-    site: &Site,
-    qual: Qual,
-    made: &mut Made,
-) -> Result<Ask<Place>, Memory>
-    requires making { IsMaking (S.state scopes.old).frame site.now made.old [] }
-    requires read { IsReadQual site.now.texts.now.names qual }
-    ensures { Declares (S.state scopes.old) (S.state scopes.new) made.old made.new site.now result [] IsTagType
-        (λ c. only_gives (spec_type_of c qual)) }
-{
-    let named = analysed!(type_of_qual(scopes, site, qual, &mut made.notes));
-    let of = small_place(named);
-    Ok(Ask::Known(of))
-}
-
 /// The type of a variant part's tag. One that isn't ordinal is refused, and in error.
 pub(crate) fn tag_in<S: Scopes>(
     scopes: &mut S,
@@ -195,8 +158,12 @@ pub(crate) fn tag_in<S: Scopes>(
     ensures { Declares (S.state scopes.old) (S.state scopes.new) made.old made.new site.now result [] IsTagType
         (λ c. only_gives (tag_type c qual)) }
 {
-    let of = analysed!(named_tag(scopes, site, qual, made));
-    checked_tag(scopes, site, qual.first.at, of, made)
+    let named = analysed!(type_of_qual(scopes, site, qual, &mut made.notes));
+    let of = small_place(named);
+    let stood = asked!(stand_in(scopes, site, made, of));
+    let wrong = is_no_tag(stood);
+    let tag = put!(keep_tag(site, qual.first.at, wrong, of, made));
+    Ok(Ask::Known(tag))
 }
 
 /// The tag of a variant part, where it has a name, at this offset, of the record whose row has this ordinal. The value

@@ -1,58 +1,15 @@
 //! The rows of a procedure type.
-ghost use Rattle.std.specs.Prelude.{◌<◌, ◌^◌, flat_map};
-ghost use Rattle.m2_base.specs.Rows.{IsSmallScope};
-ghost use Rattle.m2_base.specs.States.{State};
+ghost use Rattle.std.specs.Prelude.{flat_map};
 ghost use Rattle.m2_base.specs.Statics.Makes.{make_then, makes_row};
-ghost use Rattle.m2_base.specs.Statics.ProcedureTypes.{formal_rows, open_array_row, parameter_type as spec_type};
-ghost use Rattle.m2_base.specs.Statics.Shapes.{formal_shapes, open_shapes};
+ghost use Rattle.m2_base.specs.Statics.ProcedureTypes.{formal_rows, parameter_type as spec_type};
+ghost use Rattle.m2_base.specs.Statics.Shapes.{formal_shapes};
 ghost use Rattle.m2_base.specs.declared.rows.RowMeaning.TheVariants as meanings;
-ghost use Rattle.decl_sem.specs.Making.{next_ordinal};
-ghost use Rattle.decl_sem.specs.Pieces.{Declares, IsAny, IsBehind, IsMaking, known_of};
+ghost use Rattle.decl_sem.specs.Pieces.{Declares, IsAny, IsBehind, IsMaking};
 ghost use Rattle.m2_base.specs.Statics.ReadTrees.{AreReadFormals, IsReadQual};
 
 use crate::making::{Made, put_plain};
-use crate::types::name_in;
-use m2_base::{Ask, Formal, Memory, Place, Qual, RowMeaning, Scopes, Site};
-
-/// An open array has a row of its own.
-fn open_in(
-    site: &Site,
-    made: &mut Made,
-    qual: Qual,
-    is_open: bool,
-    of: Place,
-) -> Result<Place, Memory>
-    requires room { next_ordinal made.old < 2 ^ 32 }
-    requires scope { IsSmallScope of }
-    ensures { (a : State) → IsMaking a.frame site.now made.old (open_shapes is_open qual)
-        → IsBehind a.frame (next_ordinal made.old) of → Declares a a made.old made.new site.now (known_of result)
-        (open_shapes is_open qual) IsBehind (λ c. open_array_row c qual.first.at is_open of) }
-{
-    if is_open {
-        put_plain(site, made, qual.first.at, RowMeaning::OpenArray(of))
-    } else {
-        Ok(of)
-    }
-}
-
-/// The type of a parameter; an open array has a row of its own.
-fn parameter_type<S: Scopes>(
-    scopes: &mut S,
-    site: &Site,
-    qual: Qual,
-    is_open: bool,
-    made: &mut Made,
-) -> Result<Ask<Place>, Memory>
-    requires making { IsMaking (S.state scopes.old).frame site.now made.old (open_shapes is_open qual) }
-    requires room { next_ordinal made.old < 2 ^ 32 }
-    requires read { IsReadQual site.now.texts.now.names qual }
-    ensures { Declares (S.state scopes.old) (S.state scopes.new) made.old made.new site.now result
-        (open_shapes is_open qual) IsBehind (λ c. spec_type c is_open qual) }
-{
-    let of = analysed!(name_in(scopes, site, qual, made));
-    let typ = put!(open_in(site, made, qual, is_open, of));
-    Ok(Ask::Known(typ))
-}
+use crate::section_rows::parameter_type;
+use m2_base::{Ask, Formal, Memory, Place, RowMeaning, Scopes, Site};
 
 /// A parameter of a procedure type whose row has this ordinal.
 pub(crate) fn formal_in<S: Scopes>(
@@ -68,7 +25,7 @@ pub(crate) fn formal_in<S: Scopes>(
         (formal_shapes formal.now) IsBehind (λ c. make_then c (spec_type c formal.now.is_open formal.now.of)
         (λ d t. makes_row d formal.now.of.first.at (meanings.Param t formal.now.by_ref own))) }
 {
-    let of = analysed!(parameter_type(scopes, site, formal.of, formal.is_open, made));
+    let of = analysed!(parameter_type(scopes, site, made, formal.is_open, formal.of));
     let meaning = RowMeaning::Param(of, formal.by_ref, own);
     let row = put!(put_plain(site, made, formal.of.first.at, meaning));
     Ok(Ask::Known(row))

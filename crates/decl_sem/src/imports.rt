@@ -1,5 +1,5 @@
 //! The rows of an import.
-ghost use Rattle.std.specs.Prelude.{◌≡◌, ◌≢◌, ◌∷◌, ◌++◌, ◌-◌, [], ◌<◌, ◌+◌, ◌^◌, ◌≤◌, map, is_some, true, length};
+ghost use Rattle.std.specs.Prelude.{◌≡◌, ◌≢◌, ◌∷◌, ◌++◌, ◌-◌, [], ◌<◌, ◌+◌, ◌^◌, map, is_some, true, length};
 ghost use Rattle.std.specs.Prelude.{if◌then◌else◌, unwrap_or, None, Some, IfOk};
 ghost use Rattle.std.specs.Option.{IfSome};
 ghost use Rattle.m2_base.specs.Rows.{alias_kind, module_kind};
@@ -16,14 +16,13 @@ ghost use Rattle.m2_base.specs.Statics.ImportedConstants.{brought_by, brought_na
 ghost use Rattle.m2_base.specs.Lists.{Each, IsPrefixOf};
 ghost use Rattle.m2_base.specs.Statics.Makes.{make_then, one_row};
 ghost use Rattle.m2_base.specs.Statics.Items.{import_item};
-ghost use Rattle.m2_base.specs.Statics.Makes.{makes_named as spec_named};
 ghost use Rattle.m2_base.specs.Statics.Shapes.{import_kind, named};
 ghost use Rattle.m2_base.specs.declared.rows.RowMeaning.TheVariants.{Alias, Module};
 ghost use Rattle.type_rules.specs.Scenes.{IsRowOf};
 ghost use Rattle.type_rules.specs.Sites.{context_of, source_of};
 ghost use Rattle.decl_sem.specs.Brought.{BringAny, DeclaresWith, all_names, brings_new, listed, listed_of};
-ghost use Rattle.decl_sem.specs.FoundConstants.{AreNewMembers, AreSeen, member_view};
-ghost use Rattle.decl_sem.specs.ImportedModules.{IsFromBefore, alias_rows, first_from, is_text_named};
+ghost use Rattle.decl_sem.specs.FoundConstants.{AreNewMembers, member_view};
+ghost use Rattle.decl_sem.specs.ImportedModules.{IsFromBefore, first_from, is_text_named};
 ghost use Rattle.decl_sem.specs.Making.{diag_in, next_ordinal};
 ghost use Rattle.decl_sem.specs.Pieces.{Declares, IsAny, IsBehind, IsMaking, WhereMaking, known_of};
 ghost use Rattle.m2_base.specs.Statics.ReadTrees.{IsReadName, IsReadOption};
@@ -76,25 +75,6 @@ fn module_scope(texts: &Texts, name: u32) -> u32
     scope_in(texts, &texts.order, name)
 }
 
-/// The row of a module.
-fn put_module<S: Scopes>(
-    scopes: &S,
-    site: &Site,
-    name: Ident,
-    made: &mut Made,
-) -> Result<Place, Memory>
-    requires making { IsMaking (S.state scopes.now).frame site.now made.old (named module_kind name ∷ []) }
-    requires named { IsReadName site.now.texts.now.names name }
-    requires before { scope_of_module (source_of site.now.texts.now) name.name
-        < (S.state scopes.now).frame.setting.fills }
-    ensures { Declares (S.state scopes.now) (S.state scopes.now) made.old made.new site.now
-        (known_of result) (named module_kind name ∷ []) IsBehind
-        (λ c. spec_named c name.name name.at (Module (scope_of_module (source_of site.now.texts.now) name.name))) }
-{
-    let scope = module_scope(site.texts, name.name);
-    name_row(scopes, site, made, name, RowMeaning::Module(scope))
-}
-
 /// Where an entry is; without one it is in error.
 fn place_or_broken(entry: Option<Entry>) -> Place
     ensures { result ≡ spec_target entry }
@@ -103,24 +83,6 @@ fn place_or_broken(entry: Option<Entry>) -> Place
         Some(entry) => entry.0,
         None => BROKEN,
     }
-}
-
-/// The row of an alias.
-fn put_alias<S: Scopes>(
-    scopes: &S,
-    site: &Site,
-    name: Ident,
-    entry: Option<Entry>,
-    made: &mut Made,
-) -> Result<Place, Memory>
-    requires making { IsMaking (S.state scopes.now).frame site.now made.old (named alias_kind name ∷ []) }
-    requires named { IsReadName site.now.texts.now.names name }
-    requires row { IfSome entry (λ e. IsRowOf (S.state scopes.now).frame e.0 e.1) }
-    ensures { Declares (S.state scopes.now) (S.state scopes.now) made.old made.new site.now (known_of result)
-        (named alias_kind name ∷ []) IsBehind (λ c. spec_named c name.name name.at (Alias (spec_target entry))) }
-{
-    let target = small_place(place_or_broken(entry));
-    name_row(scopes, site, made, name, RowMeaning::Alias(target))
 }
 
 /// Whether the name of an alias that an import has brought before is declared twice: it leads elsewhere,
@@ -146,25 +108,6 @@ fn is_again<S: Scopes>(
     is_hidden(scopes, site, made, name.name, target)
 }
 
-/// The row of an alias whose name an import has brought before.
-fn put_again<S: Scopes>(
-    _scopes: &S,
-    site: &Site,
-    name: Ident,
-    target: Place,
-    again: bool,
-    made: &mut Made,
-) -> Result<Place, Memory>
-    requires making { IsMaking (S.state _scopes.now).frame site.now made.old (named alias_kind name ∷ []) }
-    requires brought { is_some (entry_named site.now.layout.now.brought name.name) ≡ true }
-    requires target { IsBehind (S.state _scopes.now).frame (next_ordinal made.old) target }
-    ensures { Declares (S.state _scopes.now) (S.state _scopes.now) made.old made.new site.now
-        (known_of result) (named alias_kind name ∷ []) IsBehind
-        (λ c. one_row c (row_of 0 name.at (Alias target)) (if again then diag c name.at declared_twice ∷ [] else [])) }
-{
-    make_again(site, made, name.at, RowMeaning::Alias(target), again)
-}
-
 /// An alias whose name an import has brought before.
 fn again_row<S: Scopes>(
     scopes: &mut S,
@@ -182,10 +125,8 @@ fn again_row<S: Scopes>(
         (λ c. one_row c (row_of 0 name.at (Alias target)) (again_diags c name target)) }
 {
     let again = asked!(is_again(scopes, site, name, target, made));
-    match put_again(scopes, site, name, target, again, made) {
-        Ok(place) => Ok(Ask::Known(place)),
-        Err(memory) => Err(memory),
-    }
+    let place = put!(make_again(site, made, name.at, RowMeaning::Alias(target), again));
+    Ok(Ask::Known(place))
 }
 
 /// The row of an alias. It has no name where an earlier import brought that.
@@ -202,15 +143,13 @@ fn own_row<S: Scopes>(
     ensures { Declares (S.state scopes.old) (S.state scopes.new) made.old made.new site.now result
         (named alias_kind name ∷ []) IsBehind (λ c. alias_row c name (spec_target entry)) }
 {
+    let target = small_place(place_or_broken(entry));
     match site.layout.brought(name.name) {
-        Some(_) => {
-            let target = small_place(place_or_broken(entry));
-            again_row(scopes, site, name, target, made)
+        Some(_) => again_row(scopes, site, name, target, made),
+        None => {
+            let place = put!(name_row(scopes, site, made, name, RowMeaning::Alias(target)));
+            Ok(Ask::Known(place))
         }
-        None => match put_alias(scopes, site, name, entry, made) {
-            Ok(place) => Ok(Ask::Known(place)),
-            Err(memory) => Err(memory),
-        },
     }
 }
 
@@ -326,32 +265,6 @@ fn entry_rows<S: Scopes>(
     bring(alloc, scopes, site, name.at, entry, made)
 }
 
-/// A name of a module that has this scope, and the names that it brings.
-fn from_rows<S: Scopes>(
-    alloc: Global,
-    scopes: &mut S,
-    site: &Site,
-    scope: u32,
-    name: Ident,
-    made: &mut Made,
-) -> Result<Ask<Vec<Named>>, Memory>
-    requires making { IsMaking (S.state scopes.old).frame site.now made.old (named alias_kind name ∷ []) }
-    requires named { IsReadName site.now.texts.now.names name }
-    requires before { scope < (S.state scopes.old).frame.setting.fills }
-    ensures { DeclaresWith (S.state scopes.old) (S.state scopes.new) made.old made.new site.now (listed result)
-        (named alias_kind name ∷ []) all_names IsAny (λ c. alias_rows c scope name) }
-{
-    let entry = analysed!(use_name(
-        scopes,
-        site,
-        Some(scope),
-        name.name,
-        name.at,
-        &mut made.notes,
-    ));
-    entry_rows(alloc, scopes, site, name, entry, made)
-}
-
 /// A module.
 fn module_rows<S: Scopes>(
     alloc: Global,
@@ -367,10 +280,9 @@ fn module_rows<S: Scopes>(
     ensures { DeclaresWith (S.state scopes.old) (S.state scopes.new) made.old made.new site.now (listed result)
         (named module_kind name ∷ []) all_names (BringAny (import_item None name)) (λ c. spec_rows c None name) }
 {
-    match put_module(scopes, site, name, made) {
-        Ok(_place) => Ok(Ask::Known(Vec::new(alloc))),
-        Err(memory) => Err(memory),
-    }
+    let scope = module_scope(site.texts, name.name);
+    put!(name_row(scopes, site, made, name, RowMeaning::Module(scope)));
+    Ok(Ask::Known(Vec::new(alloc)))
 }
 
 /// A name of a module of this name, and the names that it brings.
@@ -392,7 +304,15 @@ fn member_rows<S: Scopes>(
         (λ c. spec_rows c (Some outer) name) }
 {
     let scope = module_scope(site.texts, outer.name);
-    from_rows(alloc, scopes, site, scope, name, made)
+    let entry = analysed!(use_name(
+        scopes,
+        site,
+        Some(scope),
+        name.name,
+        name.at,
+        &mut made.notes,
+    ));
+    entry_rows(alloc, scopes, site, name, entry, made)
 }
 
 /// A module; or a name of a module, an alias of what it stands for there, and the names that it brings.

@@ -6,14 +6,13 @@ ghost use Rattle.m2_base.specs.States.{State};
 ghost use Rattle.m2_base.specs.Statics.Contexts.{refuse as refuses};
 ghost use Rattle.m2_base.specs.Statics.Diagnostics.{result_not_scalar};
 ghost use Rattle.m2_base.specs.Statics.Makes.{only_gives};
-ghost use Rattle.m2_base.specs.Statics.ProcedureTypes.{checked_result as spec_checked, is_structured_kind};
+ghost use Rattle.m2_base.specs.Statics.ProcedureTypes.{is_structured_kind};
 ghost use Rattle.m2_base.specs.Statics.ProcedureTypes.{result_type};
-ghost use Rattle.m2_base.specs.declared.rows.RowMeaning.TheVariants as meanings;
 ghost use Rattle.decl_sem.specs.Making.{next_ordinal};
 ghost use Rattle.decl_sem.specs.Pieces.{Declares, IsBehind, IsMaking, IsOptionBehind, known_of};
 ghost use Rattle.m2_base.specs.Statics.ReadTrees.{IsReadQualOption};
 
-use crate::making::{Made, put_plain};
+use crate::making::Made;
 use crate::names::refuse;
 use crate::standing::stand_in;
 use crate::types::name_in;
@@ -46,26 +45,7 @@ fn scalar_or_refuse(
     Ok(Some(of))
 }
 
-/// A structured result is refused at its first token, and in error.
-fn checked_result<S: Scopes>(
-    scopes: &mut S,
-    site: &Site,
-    at: u32,
-    of: Place,
-    made: &mut Made,
-) -> Result<Ask<Option<Place>>, Memory>
-    requires making { IsMaking (S.state scopes.old).frame site.now made.old [] }
-    requires there { IsBehind (S.state scopes.old).frame (next_ordinal made.old) of }
-    ensures { Declares (S.state scopes.old) (S.state scopes.new) made.old made.new site.now result [] IsOptionBehind
-        (λ c. only_gives (spec_checked c at of)) }
-{
-    let stood = asked!(stand_in(scopes, site, made, of));
-    let structured = is_structured(stood.1);
-    let scalar = put!(scalar_or_refuse(site, at, structured, of, made));
-    Ok(Ask::Known(scalar))
-}
-
-/// A result is no array and no record.
+/// A result is no array and no record: a structured one is refused at its first token, and in error.
 pub(crate) fn result_in<S: Scopes>(
     scopes: &mut S,
     site: &Site,
@@ -81,5 +61,8 @@ pub(crate) fn result_in<S: Scopes>(
         return Ok(Ask::Known(None));
     };
     let of = analysed!(name_in(scopes, site, qual, made));
-    checked_result(scopes, site, qual.first.at, of, made)
+    let stood = asked!(stand_in(scopes, site, made, of));
+    let structured = is_structured(stood.1);
+    let scalar = put!(scalar_or_refuse(site, qual.first.at, structured, of, made));
+    Ok(Ask::Known(scalar))
 }

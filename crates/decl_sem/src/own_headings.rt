@@ -1,15 +1,14 @@
 //! The rows of a procedure's heading in its own scope, and where its parameters are.
-ghost use Rattle.std.specs.Prelude.{[], flat_map, map};
+ghost use Rattle.std.specs.Prelude.{flat_map, map};
 ghost use Rattle.m2_base.specs.Lists.{Each};
 ghost use Rattle.m2_base.specs.Statics.HeadingRows.{heading_rows as spec_rows, own_section_rows as spec_section};
 ghost use Rattle.m2_base.specs.Statics.HeadingRows.{own_sections_rows as spec_sections};
 ghost use Rattle.m2_base.specs.Statics.Shapes.{own_section_shapes};
 ghost use Rattle.m2_base.specs.Views.{heading_view, section_view};
 ghost use Rattle.decl_sem.specs.Items.{IsLoneEffect};
-ghost use Rattle.decl_sem.specs.Making.{next_ordinal};
-ghost use Rattle.decl_sem.specs.OwnParameters.{AreCells, IsPlaced, heading_effect, section_given};
-ghost use Rattle.decl_sem.specs.Pieces.{Declares, IsBehind, IsMaking};
-ghost use Rattle.m2_base.specs.Statics.ReadTrees.{AreReadNames, IsReadHeading, IsReadQualOption, IsReadSection};
+ghost use Rattle.decl_sem.specs.OwnParameters.{AreCells, IsPlaced};
+ghost use Rattle.decl_sem.specs.Pieces.{Declares, IsMaking};
+ghost use Rattle.m2_base.specs.Statics.ReadTrees.{IsReadHeading, IsReadSection};
 
 use crate::cells::capped;
 use crate::effects::Effect;
@@ -20,31 +19,8 @@ use crate::own_parameters::parameters_in;
 use crate::placings::Placing;
 use crate::section_rows::put_open;
 use crate::types::name_in;
-use m2_base::{Ask, Heading, Memory, Place, Qual, Scopes, Section, Site};
+use m2_base::{Ask, Heading, Memory, Scopes, Section, Site};
 use std::alloc::Global;
-
-/// The parameters of a section, after the name of their type.
-fn named_section<S: Scopes>(
-    scopes: &mut S,
-    site: &Site,
-    made: &mut Made,
-    section: &Section,
-    elem: Place,
-    from: Placing,
-) -> Result<Ask<Placing>, Memory>
-    requires making { IsMaking (S.state scopes.old).frame site.now made.old
-        (own_section_shapes (section_view section.now)) }
-    requires elem { IsBehind (S.state scopes.old).frame (next_ordinal made.old) elem }
-    requires read { AreReadNames site.now.texts.now.names section.now.names.items }
-    requires cells { AreCells from }
-    ensures { Declares (S.state scopes.old) (S.state scopes.new) made.old made.new site.now result
-        (own_section_shapes (section_view section.now)) IsPlaced (section_given (section_view section.now) elem from) }
-{
-    match put_open(scopes, site, made, section.is_open, section.of, elem) {
-        Ok(of) => parameters_in(scopes, site, made, section, elem, of, from, &section.names),
-        Err(memory) => Err(memory),
-    }
-}
 
 /// The parameters of one section.
 fn section_in<S: Scopes>(
@@ -62,11 +38,9 @@ fn section_in<S: Scopes>(
         (own_section_shapes (section_view section.now)) IsPlaced
         (λ c. spec_section c from (section_view section.now)) }
 {
-    match name_in(scopes, site, section.of, made) {
-        Ok(Ask::Known(elem)) => named_section(scopes, site, made, section, elem, from),
-        Ok(Ask::DontKnowYet(head)) => Ok(Ask::DontKnowYet(head)),
-        Err(memory) => Err(memory),
-    }
+    let elem = analysed!(name_in(scopes, site, section.of, made));
+    let of = put!(put_open(scopes, site, made, section.is_open, section.of, elem));
+    parameters_in(scopes, site, made, section, elem, of, from, &section.names)
 }
 
 /// The parameters of all sections.
@@ -92,28 +66,6 @@ fn sections_in<S: Scopes>(
     Ok(Ask::Known(next))
 }
 
-/// The result of a heading, and what the heading gives behind its parameters.
-fn effect_in<S: Scopes>(
-    alloc: Global,
-    scopes: &mut S,
-    site: &Site,
-    made: &mut Made,
-    qual: Option<Qual>,
-    from: Placing,
-) -> Result<Ask<Effect>, Memory>
-    requires making { IsMaking (S.state scopes.old).frame site.now made.old [] }
-    requires read { IsReadQualOption site.now.texts.now.names qual }
-    requires cells { AreCells from }
-    ensures { Declares (S.state scopes.old) (S.state scopes.new) made.old made.new site.now result [] IsLoneEffect
-        (heading_effect qual from) }
-{
-    match result_in(scopes, site, qual, made) {
-        Ok(Ask::Known(of)) => Ok(Ask::Known(from.into_effect(alloc, of))),
-        Ok(Ask::DontKnowYet(head)) => Ok(Ask::DontKnowYet(head)),
-        Err(memory) => Err(memory),
-    }
-}
-
 /// The heading of the block itself: a variable for each parameter.
 pub(crate) fn heading_rows<S: Scopes>(
     alloc: Global,
@@ -132,5 +84,6 @@ pub(crate) fn heading_rows<S: Scopes>(
     let sizes = heading_sizes(&heading.sections);
     let first = Placing::new(alloc, capped(sizes.cells as u64));
     let behind = analysed!(sections_in(scopes, site, made, &heading.sections, first));
-    effect_in(alloc, scopes, site, made, heading.result, behind)
+    let of = analysed!(result_in(scopes, site, heading.result, made));
+    Ok(Ask::Known(behind.into_effect(alloc, of)))
 }

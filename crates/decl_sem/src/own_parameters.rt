@@ -8,7 +8,7 @@ ghost use Rattle.m2_base.specs.Statics.Shapes.{named};
 ghost use Rattle.m2_base.specs.Statics.Types.{size_by, size_of};
 ghost use Rattle.m2_base.specs.Views.{section_view};
 ghost use Rattle.decl_sem.specs.Making.{next_ordinal};
-ghost use Rattle.decl_sem.specs.OwnParameters.{AreCells, IsPlaced, open_row, own_row, placed_row, ref_row, value_row};
+ghost use Rattle.decl_sem.specs.OwnParameters.{AreCells, IsPlaced, open_row, placed_row, ref_row, value_row};
 ghost use Rattle.decl_sem.specs.Pieces.{Declares, IsBehind, IsMaking, known_of};
 
 use crate::making::Made;
@@ -80,55 +80,8 @@ fn put_by_ref<S: Scopes>(
     }
 }
 
-/// An open array by value, whose elements have this size: the body copies it.
-fn put_open_value<S: Scopes>(
-    scopes: &S,
-    site: &Site,
-    made: &mut Made,
-    name: Ident,
-    of: Place,
-    size: u32,
-    from: Placing,
-) -> Result<Placing, Memory>
-    requires making { IsMaking (S.state scopes.now).frame site.now made.old (named var_kind name ∷ []) }
-    requires of { IsBehind (S.state scopes.now).frame (next_ordinal made.old) of }
-    requires read { IsReadName site.now.texts.now.names name }
-    requires cells { AreCells from }
-    ensures { Declares (S.state scopes.now) (S.state scopes.now) made.old made.new site.now (known_of result)
-        (named var_kind name ∷ []) IsPlaced (open_row size name of from) }
-{
-    let cell = from.cell();
-    match from.after_open(size) {
-        Ok(next) => put_parameter(scopes, site, made, name, of, Mode::Open, cell, next),
-        Err(memory) => Err(memory),
-    }
-}
-
-/// A structured value of this size, in cells of its own: the body copies it there.
-fn put_structured<S: Scopes>(
-    scopes: &S,
-    site: &Site,
-    made: &mut Made,
-    name: Ident,
-    of: Place,
-    size: u32,
-    from: Placing,
-) -> Result<Placing, Memory>
-    requires making { IsMaking (S.state scopes.now).frame site.now made.old (named var_kind name ∷ []) }
-    requires of { IsBehind (S.state scopes.now).frame (next_ordinal made.old) of }
-    requires read { IsReadName site.now.texts.now.names name }
-    requires cells { AreCells from }
-    ensures { Declares (S.state scopes.now) (S.state scopes.now) made.old made.new site.now (known_of result)
-        (named var_kind name ∷ []) IsPlaced (own_row size name of from) }
-{
-    let own = from.own();
-    match from.after_own(size) {
-        Ok(next) => put_parameter(scopes, site, made, name, of, Mode::Plain, own, next),
-        Err(memory) => Err(memory),
-    }
-}
-
-/// A value of a type of this size: a structured one has cells of its own, any other is in its cell.
+/// A value of a type of this size: a structured one has cells of its own, where the body copies it, any other is in
+/// its cell.
 fn put_value<S: Scopes>(
     scopes: &S,
     site: &Site,
@@ -147,7 +100,9 @@ fn put_value<S: Scopes>(
         (named var_kind name ∷ []) IsPlaced (value_row structured size name of from) }
 {
     if structured {
-        put_structured(scopes, site, made, name, of, size, from)
+        let own = from.own();
+        let next = put!(from.after_own(size));
+        put_parameter(scopes, site, made, name, of, Mode::Plain, own, next)
     } else {
         let cell = from.cell();
         let next = from.after_cells(1);
@@ -155,7 +110,7 @@ fn put_value<S: Scopes>(
     }
 }
 
-/// An open array by value, with elements of this type.
+/// An open array by value, with elements of this type: the body copies it.
 fn open_value<S: Scopes>(
     scopes: &mut S,
     site: &Site,
@@ -173,16 +128,12 @@ fn open_value<S: Scopes>(
     ensures { Declares (S.state scopes.old) (S.state scopes.new) made.old made.new site.now result
         (named var_kind name ∷ []) IsPlaced (λ c. open_row (size_of c.scene elem) name of from c) }
 {
-    match stand_in(scopes, site, made, elem) {
-        Ask::Known(stood) => {
-            let size = cells_by(stood.1);
-            match put_open_value(scopes, site, made, name, of, size, from) {
-                Ok(next) => Ok(Ask::Known(next)),
-                Err(memory) => Err(memory),
-            }
-        }
-        Ask::DontKnowYet(head) => Ok(Ask::DontKnowYet(head)),
-    }
+    let stood = asked!(stand_in(scopes, site, made, elem));
+    let size = cells_by(stood.1);
+    let cell = from.cell();
+    let behind = put!(from.after_open(size));
+    let next = put!(put_parameter(scopes, site, made, name, of, Mode::Open, cell, behind));
+    Ok(Ask::Known(next))
 }
 
 /// A value of a type that is no open array.

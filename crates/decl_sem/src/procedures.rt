@@ -8,8 +8,8 @@ ghost use Rattle.m2_base.specs.Statics.Shapes.{named, nameless, section_shapes};
 ghost use Rattle.m2_base.specs.Views.{heading_view};
 ghost use Rattle.m2_base.specs.declared.rows.RowMeaning.TheVariants as meanings;
 ghost use Rattle.decl_sem.specs.Making.{next_ordinal};
-ghost use Rattle.decl_sem.specs.Pieces.{Declares, IsAny, IsBehind, IsMaking, known_of};
-ghost use Rattle.m2_base.specs.Statics.ReadTrees.{IsReadHeading, IsReadName};
+ghost use Rattle.decl_sem.specs.Pieces.{Declares, IsAny, IsBehind, IsMaking};
+ghost use Rattle.m2_base.specs.Statics.ReadTrees.{IsReadHeading};
 
 use crate::heading_sizes::{heading_note, heading_sizes};
 use crate::making::{Made, next_row};
@@ -17,29 +17,7 @@ use crate::meanings::{proc_number, proc_scope};
 use crate::procedure_types::proc_row;
 use crate::putting::name_row;
 use crate::section_rows::sections_rows;
-use m2_base::{
-    Ask, Heading, HeadingNote, Ident, Memory, Place, RowMeaning, Scopes, Site, StreamKind,
-};
-
-/// The named row of a procedure of this type.
-fn named_proc<S: Scopes>(
-    scopes: &S,
-    site: &Site,
-    made: &mut Made,
-    name: Ident,
-    of: Place,
-    number: u32,
-    scope: u32,
-) -> Result<Place, Memory>
-    requires making { IsMaking (S.state scopes.now).frame site.now made.old (named proc_kind name ∷ []) }
-    requires read { IsReadName site.now.texts.now.names name }
-    requires of { IsBehind (S.state scopes.now).frame (next_ordinal made.old) of }
-    ensures { Declares (S.state scopes.now) (S.state scopes.now) made.old made.new site.now (known_of result)
-        (named proc_kind name ∷ []) IsBehind (λ c. makes_named c name.name name.at (meanings.Proc of number scope)) }
-{
-    let meaning = RowMeaning::Proc(of, number, scope);
-    name_row(scopes, site, made, name, meaning)
-}
+use m2_base::{Ask, Heading, HeadingNote, Memory, Place, RowMeaning, Scopes, Site, StreamKind};
 
 /// The procedure's type, whose parameters' rows begin with the first, and the procedure.
 fn typed_proc<S: Scopes>(
@@ -63,14 +41,10 @@ fn typed_proc<S: Scopes>(
         (λ f t. makes_named f heading.now.name.name heading.now.name.at (meanings.Proc t number scope))) }
 {
     let name = heading.name;
-    match proc_row(scopes, site, name.at, first, count, heading.result, made) {
-        Ok(Ask::Known(of)) => match named_proc(scopes, site, made, name, of, number, scope) {
-            Ok(place) => Ok(Ask::Known(place)),
-            Err(memory) => Err(memory),
-        },
-        Ok(Ask::DontKnowYet(head)) => Ok(Ask::DontKnowYet(head)),
-        Err(memory) => Err(memory),
-    }
+    let of = analysed!(proc_row(scopes, site, name.at, first, count, heading.result, made));
+    let meaning = RowMeaning::Proc(of, number, scope);
+    let place = put!(name_row(scopes, site, made, name, meaning));
+    Ok(Ask::Known(place))
 }
 
 /// Open arrays and parameters, the procedure's type, and the procedure. `procedures` is the number of those before it.

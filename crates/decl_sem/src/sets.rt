@@ -1,8 +1,7 @@
 //! The rows of a set, and the types that its base may be.
-ghost use Rattle.std.specs.Prelude.{◌≡◌, ◌∷◌, [], ℕ, option_map, if◌then◌else◌};
-ghost use Rattle.std.specs.Option.{IfSome};
+ghost use Rattle.std.specs.Prelude.{◌≡◌, ◌∷◌, [], option_map, if◌then◌else◌};
 ghost use Rattle.m2_base.specs.Gives.{gives};
-ghost use Rattle.m2_base.specs.Rows.{Fits, IsValue, set_kind};
+ghost use Rattle.m2_base.specs.Rows.{set_kind};
 ghost use Rattle.m2_base.specs.Standard.{broken};
 ghost use Rattle.m2_base.specs.States.{State};
 ghost use Rattle.m2_base.specs.Statics.Arrays.{checked_base as spec_base, is_set_range as spec_is_set_range};
@@ -11,8 +10,6 @@ ghost use Rattle.m2_base.specs.Statics.Diagnostics.{wrong_index};
 ghost use Rattle.m2_base.specs.Statics.Makes.{make_then, makes_row, only_gives};
 ghost use Rattle.m2_base.specs.Statics.Ranges.{range};
 ghost use Rattle.m2_base.specs.Statics.Shapes.{nameless};
-ghost use Rattle.m2_base.specs.Statics.Types.{range_by as spec_range};
-ghost use Rattle.m2_base.specs.declared.rows.Place.{Place as Spot};
 ghost use Rattle.m2_base.specs.declared.rows.RowMeaning.TheVariants as meanings;
 ghost use Rattle.decl_sem.specs.Making.{next_ordinal};
 ghost use Rattle.decl_sem.specs.Pieces.{Declares, IsBehind, IsMaking, known_of};
@@ -61,26 +58,7 @@ pub(crate) fn keep_or_refuse(
     Ok(BROKEN)
 }
 
-/// A set's base is ordinal, within 0..31.
-fn checked_base<S: Scopes>(
-    scopes: &mut S,
-    site: &Site,
-    at: u32,
-    of: Place,
-    made: &mut Made,
-) -> Result<Ask<Place>, Memory>
-    requires making { IsMaking (S.state scopes.old).frame site.now made.old [] }
-    requires there { IsBehind (S.state scopes.old).frame (next_ordinal made.old) of }
-    ensures { Declares (S.state scopes.old) (S.state scopes.new) made.old made.new site.now result [] IsBehind
-        (λ c. only_gives (spec_base c at of)) }
-{
-    let stood = asked!(stand_in(scopes, site, made, of));
-    let keep = may_be_base(stood);
-    let base = put!(keep_or_refuse(site, at, keep, of, made));
-    Ok(Ask::Known(base))
-}
-
-/// The row of a set of this base, whose first token is given.
+/// The row of a set of this base, whose first token is given. The base is ordinal, within 0..31.
 pub(crate) fn make_set<S: Scopes>(
     scopes: &mut S,
     site: &Site,
@@ -95,7 +73,9 @@ pub(crate) fn make_set<S: Scopes>(
         (nameless set_kind at ∷ []) IsBehind
         (λ c. make_then c (only_gives (spec_base c base_at of)) (λ e base. makes_row e at (meanings.Set base))) }
 {
-    let base = analysed!(checked_base(scopes, site, base_at, of, made));
+    let stood = asked!(stand_in(scopes, site, made, of));
+    let keep = may_be_base(stood);
+    let base = put!(keep_or_refuse(site, base_at, keep, of, made));
     let set = put!(put_plain(site, made, at, RowMeaning::Set(base)));
     Ok(Ask::Known(set))
 }

@@ -1,10 +1,9 @@
 //! The rows of subranges.
 ghost use Rattle.std.specs.Prelude.{◌≡◌, ◌∷◌, [], ℕ, None, Some, if◌then◌else◌, option_map};
 ghost use Rattle.std.specs.Option.{IfSome};
-ghost use Rattle.m2_base.specs.Gives.{and_then, gives};
+ghost use Rattle.m2_base.specs.Gives.{gives};
 ghost use Rattle.m2_base.specs.Rows.{subrange_kind};
 ghost use Rattle.m2_base.specs.States.{Waits};
-ghost use Rattle.m2_base.specs.Statics.Constants.{constant_of};
 ghost use Rattle.m2_base.specs.Statics.Operands.{char_or_same};
 ghost use Rattle.m2_base.specs.Statics.Shapes.{form_shapes, nameless};
 ghost use Rattle.m2_base.specs.Statics.Subranges.{is_broken_base, named_base as spec_named, of_bounds as spec_of};
@@ -221,50 +220,6 @@ fn of_bounds<S: Scopes>(
     }
 }
 
-/// The bounds of a subrange, by its base, the constant of the low bound and the expression of the high one.
-fn with_high<S: Scopes>(
-    scopes: &mut S,
-    site: &Site,
-    base: Option<Place>,
-    low_at: u32,
-    low: Option<Operand>,
-    high: &Expr,
-    notes: &mut Notes,
-) -> Result<Ask<Option<Bounds>>, Memory>
-    requires suits { SuitsSite (S.state scopes.old).frame site.now }
-    requires base { IfSome base (λ of. IsThere (S.state scopes.old).frame of) }
-    requires low { IfSome low (λ x. IsOperand (S.state scopes.old).frame x) }
-    requires read { IsReadExpr site.now.texts.now.names (expr_view high.now) }
-    ensures { Analysed (S.state scopes.old) (S.state scopes.new) notes.old notes.new site.now result
-        (λ f given. IfSome given (λ bounds. AreBounds f bounds))
-        (λ c. kept (and_then (constant_of c (expr_view high.now)) (λ y. spec_of c base low_at high.now.at low y))) }
-{
-    let last = analysed!(constant(scopes, site, high, notes));
-    of_bounds(scopes, site, base, low_at, low, high.at, last, notes)
-}
-
-/// The bounds of a subrange, by its base and the expressions of its bounds.
-fn with_low<S: Scopes>(
-    scopes: &mut S,
-    site: &Site,
-    base: Option<Place>,
-    low: &Expr,
-    high: &Expr,
-    notes: &mut Notes,
-) -> Result<Ask<Option<Bounds>>, Memory>
-    requires suits { SuitsSite (S.state scopes.old).frame site.now }
-    requires base { IfSome base (λ of. IsThere (S.state scopes.old).frame of) }
-    requires low { IsReadExpr site.now.texts.now.names (expr_view low.now) }
-    requires high { IsReadExpr site.now.texts.now.names (expr_view high.now) }
-    ensures { Analysed (S.state scopes.old) (S.state scopes.new) notes.old notes.new site.now result
-        (λ f given. IfSome given (λ bounds. AreBounds f bounds))
-        (λ c. kept (and_then (constant_of c (expr_view low.now))
-        (λ x. and_then (constant_of c (expr_view high.now)) (λ y. spec_of c base low.now.at high.now.at x y)))) }
-{
-    let first = analysed!(constant(scopes, site, low, notes));
-    with_high(scopes, site, base, low.at, first, high, notes)
-}
-
 /// The base that is named, if one is.
 fn named_base<S: Scopes>(
     scopes: &mut S,
@@ -302,7 +257,9 @@ fn bounds_in<S: Scopes>(
         (λ c. kept (spec_subrange c base (expr_view low.now) (expr_view high.now))) }
 {
     let named = analysed!(named_base(scopes, site, base, notes));
-    with_low(scopes, site, named, low, high, notes)
+    let first = analysed!(constant(scopes, site, low, notes));
+    let last = analysed!(constant(scopes, site, high, notes));
+    of_bounds(scopes, site, named, low.at, first, high.at, last, notes)
 }
 
 /// The row of right bounds.

@@ -1,15 +1,11 @@
 //! The rows of a type, and its name.
 ghost use Rattle.std.specs.Prelude.{◌∷◌, ◌++◌, [], option_map};
 ghost use Rattle.m2_base.specs.Rows.{type_name_kind};
-ghost use Rattle.m2_base.specs.Statics.Makes.{makes_named as spec_named};
 ghost use Rattle.m2_base.specs.Statics.NameRows.{declared_type as spec_declared, type_name_rows as spec_rows};
 ghost use Rattle.m2_base.specs.Statics.Shapes.{named, type_item_shapes};
 ghost use Rattle.m2_base.specs.Views.{type_view};
-ghost use Rattle.m2_base.specs.declared.rows.RowMeaning.TheVariants.{TypeName};
-ghost use Rattle.decl_sem.specs.Making.{next_ordinal};
-ghost use Rattle.decl_sem.specs.Pieces.{Declares, IsBehind, IsMaking, known_of};
-ghost use Rattle.m2_base.specs.Statics.ReadTrees.{IsReadTypeOption};
-ghost use Rattle.m2_base.specs.Statics.ReadTrees.{IsReadName};
+ghost use Rattle.decl_sem.specs.Pieces.{Declares, IsBehind, IsMaking};
+ghost use Rattle.m2_base.specs.Statics.ReadTrees.{IsReadName, IsReadTypeOption};
 
 use crate::making::Made;
 use crate::putting::{name_row, plain_row};
@@ -42,23 +38,6 @@ fn declared_type<S: Scopes>(
     }
 }
 
-/// The row of a type's name.
-fn put_type_name<S: Scopes>(
-    scopes: &S,
-    site: &Site,
-    made: &mut Made,
-    name: Ident,
-    of: Place,
-) -> Result<Place, Memory>
-    requires making { IsMaking (S.state scopes.now).frame site.now made.old (named type_name_kind name ∷ []) }
-    requires read { IsReadName site.now.texts.now.names name }
-    requires of { IsBehind (S.state scopes.now).frame (next_ordinal made.old) of }
-    ensures { Declares (S.state scopes.now) (S.state scopes.now) made.old made.new site.now (known_of result)
-        (named type_name_kind name ∷ []) IsBehind (λ c. spec_named c name.name name.at (TypeName of)) }
-{
-    name_row(scopes, site, made, name, RowMeaning::TypeName(of))
-}
-
 /// The rows of a type, and its name.
 pub(crate) fn type_name_rows<S: Scopes>(
     alloc: Global,
@@ -76,12 +55,7 @@ pub(crate) fn type_name_rows<S: Scopes>(
         (type_item_shapes name (option_map type_view typ.now) ++ named type_name_kind name ∷ []) IsBehind
         (λ c. spec_rows c name (option_map type_view typ.now)) }
 {
-    match declared_type(alloc, scopes, site, name, typ, made) {
-        Ok(Ask::Known(of)) => match put_type_name(scopes, site, made, name, of) {
-            Ok(place) => Ok(Ask::Known(place)),
-            Err(memory) => Err(memory),
-        },
-        Ok(Ask::DontKnowYet(head)) => Ok(Ask::DontKnowYet(head)),
-        Err(memory) => Err(memory),
-    }
+    let of = analysed!(declared_type(alloc, scopes, site, name, typ, made));
+    let place = put!(name_row(scopes, site, made, name, RowMeaning::TypeName(of)));
+    Ok(Ask::Known(place))
 }

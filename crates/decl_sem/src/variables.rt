@@ -4,7 +4,7 @@ ghost use Rattle.m2_base.specs.Lists.{Each};
 ghost use Rattle.m2_base.specs.Rows.{HasSmallNumbers, row_meaning, var_kind};
 ghost use Rattle.m2_base.specs.States.{Waits};
 ghost use Rattle.m2_base.specs.Statics.Cells.{most_cells};
-ghost use Rattle.m2_base.specs.Statics.NameRows.{var_rows as spec_vars, vars_rows as spec_all};
+ghost use Rattle.m2_base.specs.Statics.NameRows.{vars_rows as spec_all};
 ghost use Rattle.m2_base.specs.Statics.Shapes.{named, type_shapes};
 ghost use Rattle.m2_base.specs.Statics.Types.{size_by as spec_size_by, size_of as spec_size};
 ghost use Rattle.m2_base.specs.Views.{type_view};
@@ -98,31 +98,6 @@ fn put_variables<S: Scopes>(
     Ok(next)
 }
 
-/// Variables of a type that is made, from this cell on. The value is the next free cell.
-fn put_of<S: Scopes>(
-    scopes: &mut S,
-    site: &Site,
-    made: &mut Made,
-    of: Place,
-    cell: u32,
-    names: &[Ident],
-) -> Result<Ask<u32>, Memory>
-    requires making { IsMaking (S.state scopes.old).frame site.now made.old (map (named var_kind) names.now) }
-    requires of { IsBehind (S.state scopes.old).frame (next_ordinal made.old) of }
-    requires read { AreReadNames site.now.texts.now.names names.now }
-    requires cell { cell ≤ most_cells + 1 }
-    ensures { Declares (S.state scopes.old) (S.state scopes.new) made.old made.new site.now result
-        (map (named var_kind) names.now) IsCell (λ c. spec_vars c of cell names.now) }
-{
-    match cells_of(scopes, site, made, of) {
-        Ask::Known(size) => match put_variables(scopes, site, made, of, size, cell, names) {
-            Ok(next) => Ok(Ask::Known(next)),
-            Err(memory) => Err(memory),
-        },
-        Ask::DontKnowYet(head) => Ok(Ask::DontKnowYet(head)),
-    }
-}
-
 /// The rows of a type, and the variables of it, from this cell on. The value is the next free cell.
 pub(crate) fn vars_rows<S: Scopes>(
     alloc: Global,
@@ -142,9 +117,8 @@ pub(crate) fn vars_rows<S: Scopes>(
         (type_shapes (type_view typ.now) ++ map (named var_kind) names.now) IsCell
         (λ c. spec_all c names.now (type_view typ.now) cell) }
 {
-    match type_in(alloc, scopes, site, typ, made) {
-        Ok(Ask::Known(of)) => put_of(scopes, site, made, of, cell, names),
-        Ok(Ask::DontKnowYet(head)) => Ok(Ask::DontKnowYet(head)),
-        Err(memory) => Err(memory),
-    }
+    let of = analysed!(type_in(alloc, scopes, site, typ, made));
+    let size = asked!(cells_of(scopes, site, made, of));
+    let next = put!(put_variables(scopes, site, made, of, size, cell, names));
+    Ok(Ask::Known(next))
 }

@@ -1,6 +1,13 @@
 use Rattle.type_rules.proofs.Reading.{Reads-trans, Waits_read}
 use Rattle.decl_sem.proofs.ArrayCells.{cells_told}
+use Rattle.decl_sem.proofs.Asking.{behind_read, making_read}
 use Rattle.decl_sem.proofs.arrays.array_cells.Goals as goal
+
+pub cells_of-requires-clause-making : goal.cells_of-requires-clause-making
+cells_of-requires-clause-making g c = making_read c.in-Known.ensures.reads c.requires.making
+
+pub cells_of-requires-clause-of : goal.cells_of-requires-clause-of
+cells_of-requires-clause-of g c = behind_read c.in-Known.ensures.reads c.requires.of
 
 pub returns-in-DontKnowYet-cells_of-clause-reads : goal.returns-in-DontKnowYet-cells_of-clause-reads
 returns-in-DontKnowYet-cells_of-clause-reads g c = Reads-trans c.in-Known.ensures.reads c.in-DontKnowYet-cells_of.ensures.reads

@@ -10,15 +10,12 @@ use Rattle.decl_sem.specs.Making.{next_ordinal}
 use Rattle.decl_sem.specs.Pieces.{IsBehind}
 use Rattle.decl_sem.proofs.Asking.{first_made}
 use Rattle.decl_sem.proofs.Parameters.{open_no_types, param_meaning}
-use Rattle.decl_sem.proofs.OneRows.{room_before_row, room_for_row, small_scope}
+use Rattle.decl_sem.proofs.OneRows.{room_for_row, small_scope}
 use Rattle.decl_sem.proofs.Pieces.{making_front, making_on, then_after}
 use Rattle.decl_sem.proofs.formals.formal_in.Goals as goal
 
 pub parameter_type-requires-clause-making : goal.parameter_type-requires-clause-making
 parameter_type-requires-clause-making g c = making_front (open_shapes c.args.formal.now.is_open c.args.formal.now.of) (nameless param_kind c.args.formal.now.of.first.at ∷ []) c.requires.making
-
-pub parameter_type-requires-clause-room : goal.parameter_type-requires-clause-room
-parameter_type-requires-clause-room g c = room_before_row (open_shapes c.args.formal.now.is_open c.args.formal.now.of) (nameless param_kind c.args.formal.now.of.first.at) c.requires.making
 
 pub put_plain-requires-clause-room : goal.put_plain-requires-clause-room
 put_plain-requires-clause-room g c =

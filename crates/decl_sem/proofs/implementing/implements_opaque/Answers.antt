@@ -8,8 +8,22 @@ use Rattle.m2_base.specs.declared.rows.Place.{Place}
 use Rattle.m2_base.specs.declared.rows.RowMeaning.{RowMeaning}
 use Rattle.type_rules.specs.Scenes.{scene_of}
 use Rattle.type_rules.proofs.Compatibles.{told_later}
+use Rattle.type_rules.proofs.Later.{Suits_read}
+use Rattle.type_rules.proofs.Reading.{Reads-trans, Waits_read}
 use Rattle.decl_sem.proofs.OwnRows.{other_opaque}
 use Rattle.decl_sem.proofs.implementing.implements_opaque.Goals as goal
+
+pub stand-requires-clause-suits : goal.stand-requires-clause-suits
+stand-requires-clause-suits g c = Suits_read c.in-Known.ensures.reads c.requires.suits
+
+pub returns-in-DontKnowYet-stand-clause-reads : goal.returns-in-DontKnowYet-stand-clause-reads
+returns-in-DontKnowYet-stand-clause-reads g c = Reads-trans c.in-Known.ensures.reads c.in-DontKnowYet-stand.ensures.reads
+
+pub returns-in-DontKnowYet-stand-clause-waits : goal.returns-in-DontKnowYet-stand-clause-waits
+returns-in-DontKnowYet-stand-clause-waits g c = Waits_read c.in-Known.ensures.reads c.in-DontKnowYet-stand.ensures.waits
+
+pub returns-in-Known-stand-clause-reads : goal.returns-in-Known-stand-clause-reads
+returns-in-Known-stand-clause-reads g c = Reads-trans c.in-Known.ensures.reads c.in-Known-stand.ensures.reads
 
 pub returns-in-Known-stand-clause-told : goal.returns-in-Known-stand-clause-told
 returns-in-Known-stand-clause-told g c made in_hand told =

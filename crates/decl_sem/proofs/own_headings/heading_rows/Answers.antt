@@ -1,10 +1,12 @@
-use Rattle.std.specs.Prelude.{◌≡◌, ◌≤◌, ◌^◌, List, map}
+use Rattle.std.specs.Prelude.{◌≡◌, ◌≤◌, ◌^◌, List, map, Ok, Err}
 use Rattle.std.proofs.Common.{rules, subst, sym}
 use Rattle.m2_base.specs.Statics.ProcedureRows.{sections_length}
 use Rattle.m2_base.specs.Views.{section_view}
+use Rattle.m2_base.specs.declared.replies.Ask.TheVariants.{DontKnowYet, Known}
 use Rattle.m2_base.specs.declared.trees.declarations.Section.{Section}
 use Rattle.decl_sem.proofs.Asking.{first_made}
-use Rattle.decl_sem.proofs.OwnHeadings.{all_making, few_own_rows, first_at, first_cells, first_of, heading_whole, result_making, sections_read}
+use Rattle.decl_sem.proofs.OwnHeadings.{all_making, effect_given, few_own_rows, first_at, first_cells, first_of, heading_whole, result_making, sections_read}
+use Rattle.decl_sem.proofs.Pieces.{failed, waiting}
 use Rattle.decl_sem.proofs.own_headings.heading_rows.Goals as goal
 
 pub heading_sizes-sizes-requires : goal.heading_sizes-sizes-requires
@@ -25,19 +27,34 @@ sections_in-requires-clause-read g c =
 pub sections_in-requires-clause-cells : goal.sections_in-requires-clause-cells
 sections_in-requires-clause-cells g c = first_cells c.heading_sizes-sizes.result.cells c.new-first.ensures c.capped.ensures
 
-pub effect_in-requires-clause-making : goal.effect_in-requires-clause-making
-effect_in-requires-clause-making g c =
+pub result_in-requires-clause-making : goal.result_in-requires-clause-making
+result_in-requires-clause-making g c =
     let same : c.deref-2.result.now ≡ c.args.heading.now.sections.items = search rules in
     let items : c.deref.result.now ≡ c.args.heading.now.sections.items = search rules in
     let is : c.new-first.result ≡ first_of c.args.heading.now = first_at c.args.heading.now c.deref.result.now items c.heading_sizes-sizes.ensures.cells c.capped.ensures c.new-first.ensures in
     result_making c.args.heading.now c.deref-2.result.now same c.requires.making is (first_made c.in-Ok.is c.in-Known.is c.sections_in.ensures)
 
-pub effect_in-requires-clause-cells : goal.effect_in-requires-clause-cells
-effect_in-requires-clause-cells g c = (first_made c.in-Ok.is c.in-Known.is c.sections_in.ensures).there
+pub returns-in-Err-result_in : goal.returns-in-Err-result_in
+returns-in-Err-result_in g c =
+    let same : c.deref-2.result.now ≡ c.args.heading.now.sections.items = search rules in
+    let items : c.deref.result.now ≡ c.args.heading.now.sections.items = search rules in
+    let is : c.new-first.result ≡ first_of c.args.heading.now = first_at c.args.heading.now c.deref.result.now items c.heading_sizes-sizes.ensures.cells c.capped.ensures c.new-first.ensures in
+    heading_whole c.args.heading.now c.deref-2.result.now same c.requires.making is (first_made c.in-Ok.is c.in-Known.is c.sections_in.ensures) (Err c.in-Err-result_in.memory)
+    (failed c.in-Err-result_in.ensures c.in-Err-result_in.memory)
+
+pub returns-in-DontKnowYet-asked : goal.returns-in-DontKnowYet-asked
+returns-in-DontKnowYet-asked g c =
+    let same : c.deref-2.result.now ≡ c.args.heading.now.sections.items = search rules in
+    let items : c.deref.result.now ≡ c.args.heading.now.sections.items = search rules in
+    let is : c.new-first.result ≡ first_of c.args.heading.now = first_at c.args.heading.now c.deref.result.now items c.heading_sizes-sizes.ensures.cells c.capped.ensures c.new-first.ensures in
+    heading_whole c.args.heading.now c.deref-2.result.now same c.requires.making is (first_made c.in-Ok.is c.in-Known.is c.sections_in.ensures) (Ok (DontKnowYet c.in-DontKnowYet-asked.head))
+    (waiting (rw c.in-DontKnowYet-asked.is at c.in-Ok-result_in.ensures))
 
 pub returns : goal.returns
 returns g c =
     let same : c.deref-2.result.now ≡ c.args.heading.now.sections.items = search rules in
     let items : c.deref.result.now ≡ c.args.heading.now.sections.items = search rules in
     let is : c.new-first.result ≡ first_of c.args.heading.now = first_at c.args.heading.now c.deref.result.now items c.heading_sizes-sizes.ensures.cells c.capped.ensures c.new-first.ensures in
-    heading_whole c.args.heading.now c.deref-2.result.now same c.requires.making is (first_made c.in-Ok.is c.in-Known.is c.sections_in.ensures) c.effect_in.result c.effect_in.ensures
+    heading_whole c.args.heading.now c.deref-2.result.now same c.requires.making is (first_made c.in-Ok.is c.in-Known.is c.sections_in.ensures) (Ok (Known c.into_effect.result))
+    (effect_given c.args.heading.now.result c.in-Known.value c.into_effect.result c.into_effect.ensures (first_made c.in-Ok.is c.in-Known.is c.sections_in.ensures).there
+    (first_made c.in-Ok-result_in.is c.in-Known-asked.is c.result_in.ensures))
