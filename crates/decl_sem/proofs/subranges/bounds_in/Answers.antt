@@ -1,6 +1,7 @@
-use Rattle.std.proofs.Common.{Err, Ok, Option}
+use Rattle.std.proofs.Common.{Err, Ok, Option, subst, sym, ◌∙◌}
 use Rattle.std.specs.Option.{IfSome}
 use Rattle.m2_base.specs.Gives.{and_then}
+use Rattle.m2_base.specs.States.{Frame}
 use Rattle.m2_base.specs.Statics.Constants.{constant_of}
 use Rattle.m2_base.specs.Statics.Subranges.{named_base, of_bounds}
 use Rattle.m2_base.specs.Views.{expr_view}
@@ -10,10 +11,23 @@ use Rattle.const_eval.specs.NamedTexts.{IsNamedText}
 use Rattle.const_eval.specs.Sites.{IsOperand}
 use Rattle.const_eval.proofs.Analysing.{and_after, failed, waiting}
 use Rattle.type_rules.specs.Scenes.{IsThere}
+use Rattle.type_rules.specs.Sites.{SuitsSite}
 use Rattle.decl_sem.specs.Bounds.{kept}
 use Rattle.decl_sem.proofs.SubrangeRows.{bounds_at, bounds_by_seen}
 use Rattle.decl_sem.proofs.Uses.{first_known}
 use Rattle.decl_sem.proofs.subranges.bounds_in.Goals as goal
+
+pub constant-requires-clause-suits : goal.constant-requires-clause-suits
+constant-requires-clause-suits g c = subst (λ (f : Frame). SuitsSite f c.args.site.now) (sym c.named_base.ensures.works.keeps.frame) c.requires.suits
+
+pub constant-requires-2-clause-suits : goal.constant-requires-2-clause-suits
+constant-requires-2-clause-suits g c =
+    subst (λ (f : Frame). SuitsSite f c.args.site.now) (sym (c.constant.ensures.analysed.works.keeps.frame ∙ c.named_base.ensures.works.keeps.frame)) c.requires.suits
+
+pub of_bounds-requires-clause-suits : goal.of_bounds-requires-clause-suits
+of_bounds-requires-clause-suits g c =
+    subst (λ (f : Frame). SuitsSite f c.args.site.now)
+    (sym (c.constant-2.ensures.analysed.works.keeps.frame ∙ c.constant.ensures.analysed.works.keeps.frame ∙ c.named_base.ensures.works.keeps.frame)) c.requires.suits
 
 pub returns-in-Err-constant : goal.returns-in-Err-constant
 returns-in-Err-constant g c =
