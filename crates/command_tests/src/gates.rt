@@ -65,3 +65,20 @@ impl Gate for Meeting {
         }
     }
 }
+
+/// Counts the calls, and notes whether each worker's number was at most this.
+#[derive(Drop)]
+pub(crate) struct Counting {
+    pub most: u32,
+    pub calls: AtomicU64,
+    pub strangers: AtomicU64,
+}
+
+impl Gate for Counting {
+    fn pass(&self, worker: u32, _stream: u32, _steps: u64) {
+        self.calls.fetch_add(1, Ordering::SeqCst);
+        if worker > self.most {
+            self.strangers.store(1, Ordering::SeqCst);
+        }
+    }
+}

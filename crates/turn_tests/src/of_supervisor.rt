@@ -1,11 +1,9 @@
 //! The calls of `supervisor`: turns in many orders.
-use crate::behind::{merged, outputs, whole_texts};
-use crate::shelves::shelf_of;
-use m2_base::{Diag, Output, ProcCode};
+use crate::units::{first_turn, outputs, whole_texts};
+use m2_base::{Head, Output, ProcCode};
 use std::alloc::{AllocError, Global};
-use std::fmt::Write;
 use std::test::Fail;
-use unit_merge::Merged;
+use task_state::Turn;
 
 /// A procedure stands before the variable that it names.
 const NAMED_BEFORE: &str =
@@ -24,6 +22,12 @@ const IMPORTED: &str =
 
 const FIRST: &str = "DEFINITION MODULE C; CONST m = 9; END C.";
 
+/// What the module leaves: it calls P and returns.
+const CALLS_P: [u8; 10] = *b"\x2a\x01\0\0\0\0\0\0\0\x2e";
+
+/// What P leaves: v becomes 1, and it returns.
+const SETS_V: [u8; 20] = *b"\x03\0\0\0\0\0\0\0\0\x01\x01\0\0\0\0\0\0\0\x06\x2e";
+
 /// Constants of types that are imported: a procedure has a name of its own for one, and two are declared again.
 const BRINGING: &str = "MODULE A; FROM B IMPORT Color, Warm; FROM C IMPORT two, Few; \
     PROCEDURE P(c: Color): Color; VAR red: Color; BEGIN red := green; RETURN red END P; \
@@ -38,21 +42,13 @@ const HANDING_ON: &str =
 const COLORS: &str =
     "DEFINITION MODULE C; TYPE Color = (red, green, blue); Few = (one, two); END C.";
 
-/// A name is unknown in each block.
-const UNKNOWN: &str =
-    "MODULE A; PROCEDURE P; BEGIN a := 1 END P; PROCEDURE Q; BEGIN b := 1 END Q; BEGIN c := 1 END A.";
+/// A procedure that names what stands behind it in the module, and one that names its own variable alone.
+const PARKING: &str =
+    "MODULE A; PROCEDURE P; BEGIN v := 1 END P; PROCEDURE Q; VAR a: INTEGER; BEGIN a := 1 END Q; \
+    VAR v: INTEGER; BEGIN P END A.";
 
 /// In so many orders.
 const ORDERS: u32 = 200;
-
-/// Bytes as two digits each.
-fn digits(alloc: Global, bytes: &[u8]) -> Result<String, Fail> {
-    let mut text = String::new(alloc);
-    for byte in bytes {
-        write!(text, "{byte:02x}")?;
-    }
-    Ok(text)
-}
 
 fn is_same_code(a: &ProcCode, b: &ProcCode) -> bool {
     a.outer == b.outer
@@ -91,31 +87,23 @@ fn order_by(alloc: Global, rule: u32) -> Result<Vec<u32>, AllocError> {
 #[test]
 fn makes_the_turns_that_it_is_told(rt: HostRuntime) -> Result<(), Fail> {
     let alloc = rt.alloc();
-    let mut shelf = shelf_of(alloc, &[("A.mod", NAMED_BEFORE)])?;
-    let texts = whole_texts(alloc, &mut shelf, "A").ok_or("no unit")?;
+    let texts = whole_texts(alloc, &[("A.mod", NAMED_BEFORE)]).ok_or("no unit")?;
     for order in [[].as_slice(), [2, 1, 2].as_slice(), [2, 2, 2].as_slice()] {
         let outputs = outputs(alloc, &texts, order).ok_or("no outputs")?;
-        assert_eq!(rt; outputs.len(), 2);
-        assert_eq!(rt; outputs[0].stream, 1);
-        assert_eq!(rt; outputs[0].cells, 1);
-        assert_eq!(rt;
-            digits(alloc, &outputs[0].code.code)?.as_str(),
-            "2a01000000000000002e"
-        );
-        assert_eq!(rt; outputs[1].stream, 2);
-        assert_eq!(rt; outputs[1].cells, 0);
-        assert_eq!(rt;
-            digits(alloc, &outputs[1].code.code)?.as_str(),
-            "030000000000000000010100000000000000062e"
-        );
+        let [module, procedure] = outputs.as_slice() else {
+            return Err(Fail::from("not two outputs"));
+        };
+        assert!(rt; module.stream == 1 && module.cells == 1);
+        assert!(rt; module.code.code.as_slice() == CALLS_P.as_slice());
+        assert!(rt; procedure.stream == 2 && procedure.cells == 0);
+        assert!(rt; procedure.code.code.as_slice() == SETS_V.as_slice());
     }
     Ok(())
 }
 
 /// Whether a unit's streams leave the same in every order. Answers what they leave.
 fn in_every_order(alloc: Global, files: &[(&str, &str)]) -> Result<(Vec<Output>, bool), Fail> {
-    let mut shelf = shelf_of(alloc, files)?;
-    let texts = whole_texts(alloc, &mut shelf, "A").ok_or("no unit")?;
+    let texts = whole_texts(alloc, files).ok_or("no unit")?;
     let first = outputs(alloc, &texts, [].as_slice()).ok_or("no outputs")?;
     let mut same = true;
     for rule in 0..ORDERS {
@@ -130,11 +118,8 @@ fn in_every_order(alloc: Global, files: &[(&str, &str)]) -> Result<(Vec<Output>,
 fn leaves_the_same_in_every_order(rt: HostRuntime) -> Result<(), Fail> {
     let files = [("A.mod", NESTED), ("B.def", IMPORTED), ("C.def", FIRST)];
     let (first, same) = in_every_order(rt.alloc(), &files)?;
-    assert!(rt; same);
-    assert_eq!(rt; first.len(), 8);
-    for output in &first {
-        assert!(rt; output.diags.is_empty(), "{}", output.stream);
-    }
+    assert!(rt; same && first.len() == 8);
+    assert!(rt; first.iter().all(|output| output.diags.is_empty()));
     Ok(())
 }
 
@@ -146,41 +131,25 @@ fn brings_the_same_in_every_order(rt: HostRuntime) -> Result<(), Fail> {
         ("C.def", COLORS),
     ];
     let (first, same) = in_every_order(rt.alloc(), &files)?;
-    assert!(rt; same);
-    assert_eq!(rt; first.len(), 5);
+    assert!(rt; same && first.len() == 5);
     let mut diags: usize = 0;
     for output in &first {
         diags = diags.saturating_add(output.diags.len());
     }
-    assert_eq!(rt; diags, 3);
+    assert!(rt; diags == 3);
     Ok(())
 }
 
 #[test]
-fn outputs_come_to_an_object(rt: HostRuntime) -> Result<(), Fail> {
+fn waits_for_the_module_or_for_none(rt: HostRuntime) -> Result<(), Fail> {
     let alloc = rt.alloc();
-    let mut shelf = shelf_of(alloc, &[("A.mod", NAMED_BEFORE)])?;
-    let texts = whole_texts(alloc, &mut shelf, "A").ok_or("no unit")?;
-    let merged = merged(alloc, &texts, [2, 2, 2].as_slice()).ok_or("nothing merged")?;
-    assert!(rt; matches!(merged, Merged::Code(_)));
-    Ok(())
-}
-
-#[test]
-fn outputs_come_to_diagnostics(rt: HostRuntime) -> Result<(), Fail> {
-    let alloc = rt.alloc();
-    let mut shelf = shelf_of(alloc, &[("A.mod", UNKNOWN)])?;
-    let texts = whole_texts(alloc, &mut shelf, "A").ok_or("no unit")?;
-    let unknown = [7, 17, 24].map(|at| Diag {
-        text: 0,
-        at,
-        code: 40,
-    });
-    for order in [[].as_slice(), [3, 2, 1].as_slice(), [2, 3, 9, 0].as_slice()] {
-        let Some(Merged::Diags(diags)) = merged(alloc, &texts, order) else {
-            return Err(Fail::from("no diagnostics"));
-        };
-        assert_eq!(rt; diags.as_slice(), unknown.as_slice());
-    }
+    let texts = whole_texts(alloc, &[("A.mod", PARKING)]).ok_or("no unit")?;
+    let head = Head {
+        scope: 1,
+        count: 0,
+        complete: false,
+    };
+    assert!(rt; first_turn(alloc, &texts, 1) == Some(Turn::Parked(head)));
+    assert!(rt; first_turn(alloc, &texts, 2) == Some(Turn::Done));
     Ok(())
 }
