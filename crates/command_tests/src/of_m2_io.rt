@@ -1,8 +1,9 @@
 //! Calls of `m2_io` that no command makes.
 use m2_io::{
-    FolderShelf, MemSink, Pieces, Shelf, ShelfError, Sink, SinkError, Source, StdSink, StdSource,
-    write_all,
+    FolderShelf, MemSink, Pieces, Shelf, ShelfError, Sink, SinkError, Source, SourceError, StdSink,
+    StdSource, write_all,
 };
+use std::io::{self, Read, Write};
 use std::test::Fail;
 
 /// Names that a folder refuses.
@@ -51,13 +52,36 @@ fn what_is_not_taken_is_kept(rt: HostRuntime) -> Result<(), Fail> {
     Ok(())
 }
 
+/// A reader and writer that always fails.
+#[derive(Drop)]
+struct Broken;
+
+impl Read for Broken {
+    fn read(&mut self, _buf: &mut [u8]) -> io::Result<usize> {
+        Err(io::Error::from(io::ErrorKind::Other))
+    }
+}
+
+impl Write for Broken {
+    fn write(&mut self, _buf: &[u8]) -> io::Result<usize> {
+        Err(io::Error::from(io::ErrorKind::Other))
+    }
+
+    fn flush(&mut self) -> io::Result<()> {
+        Err(io::Error::from(io::ErrorKind::Other))
+    }
+}
+
 #[test]
 fn a_writer_is_a_sink_and_a_reader_a_source(rt: HostRuntime) -> Result<(), Fail> {
     let mut bytes = *b"-----";
     let mut sink = StdSink::new(&mut bytes[..3]);
     assert!(rt; sink.write(b"ab") == Ok(2));
     assert!(rt; write_all(&mut sink, b"cde") == Err(SinkError));
+    assert!(rt; sink.write(b"") == Ok(0) && sink.flush() == Ok(()));
     assert!(rt; bytes == *b"abc--");
+    assert!(rt; StdSink::new(Broken).write(b"a") == Err(SinkError));
+    assert!(rt; StdSink::new(Broken).flush() == Err(SinkError));
 
     let mut source = StdSource::new(b"abc".as_slice());
     let mut buf = *b"--";
@@ -65,5 +89,6 @@ fn a_writer_is_a_sink_and_a_reader_a_source(rt: HostRuntime) -> Result<(), Fail>
     assert!(rt; source.read(&mut buf) == Ok(1));
     assert!(rt; buf == *b"cb");
     assert!(rt; source.read(&mut buf) == Ok(0));
+    assert!(rt; StdSource::new(Broken).read(&mut buf) == Err(SourceError));
     Ok(())
 }

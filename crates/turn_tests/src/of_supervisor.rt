@@ -77,10 +77,26 @@ fn are_same(these: &[Output], those: &[Output]) -> bool {
 /// Twenty numbers of streams by a fixed rule, and of none.
 fn order_by(alloc: Global, rule: u32) -> Result<Vec<u32>, AllocError> {
     let mut order = Vec::new(alloc);
-    for turn in 0..20 {
-        order.push((rule.wrapping_mul(7919 + turn) ^ (turn * turn * 101)) % 10)?;
+    for turn in 0..20u32 {
+        let mixed = rule.wrapping_mul(turn.wrapping_add(7919));
+        order.push((mixed ^ turn.wrapping_mul(turn).wrapping_mul(101)) % 10)?;
     }
     Ok(order)
+}
+
+/// Whether these are the outputs of a module that calls P, and of P.
+fn are_of_named_before(outputs: &[Output]) -> bool {
+    match outputs {
+        [module, procedure] => {
+            module.stream == 1
+                && module.cells == 1
+                && module.code.code.as_slice() == CALLS_P.as_slice()
+                && procedure.stream == 2
+                && procedure.cells == 0
+                && procedure.code.code.as_slice() == SETS_V.as_slice()
+        }
+        _ => false,
+    }
 }
 
 /// What is found of one unit in each of these orders: the code of its two blocks.
@@ -90,19 +106,30 @@ fn makes_the_turns_that_it_is_told(rt: HostRuntime) -> Result<(), Fail> {
     let texts = whole_texts(alloc, &[("A.mod", NAMED_BEFORE)]).ok_or("no unit")?;
     for order in [[].as_slice(), [2, 1, 2].as_slice(), [2, 2, 2].as_slice()] {
         let outputs = outputs(alloc, &texts, order).ok_or("no outputs")?;
-        let [module, procedure] = outputs.as_slice() else {
-            return Err(Fail::from("not two outputs"));
-        };
-        assert!(rt; module.stream == 1 && module.cells == 1);
-        assert!(rt; module.code.code.as_slice() == CALLS_P.as_slice());
-        assert!(rt; procedure.stream == 2 && procedure.cells == 0);
-        assert!(rt; procedure.code.code.as_slice() == SETS_V.as_slice());
+        assert!(rt; are_of_named_before(&outputs));
     }
     Ok(())
 }
 
-/// Whether a unit's streams leave the same in every order. Answers what they leave.
-fn in_every_order(alloc: Global, files: &[(&str, &str)]) -> Result<(Vec<Output>, bool), Fail> {
+/// How many diagnostics there are.
+fn diags_in(outputs: &[Output]) -> usize {
+    let mut count: usize = 0;
+    for output in outputs {
+        count = count.saturating_add(output.diags.len());
+    }
+    count
+}
+
+/// What is found of a unit's streams in many orders.
+#[derive(Drop)]
+struct Found {
+    /// Whether they leave the same in each.
+    same: bool,
+    streams: usize,
+    diags: usize,
+}
+
+fn in_every_order(alloc: Global, files: &[(&str, &str)]) -> Result<Found, Fail> {
     let texts = whole_texts(alloc, files).ok_or("no unit")?;
     let first = outputs(alloc, &texts, [].as_slice()).ok_or("no outputs")?;
     let mut same = true;
@@ -111,15 +138,18 @@ fn in_every_order(alloc: Global, files: &[(&str, &str)]) -> Result<(Vec<Output>,
         let outputs = outputs(alloc, &texts, &order).ok_or("no outputs")?;
         same = same && are_same(&first, &outputs);
     }
-    Ok((first, same))
+    Ok(Found {
+        same,
+        streams: first.len(),
+        diags: diags_in(&first),
+    })
 }
 
 #[test]
 fn leaves_the_same_in_every_order(rt: HostRuntime) -> Result<(), Fail> {
     let files = [("A.mod", NESTED), ("B.def", IMPORTED), ("C.def", FIRST)];
-    let (first, same) = in_every_order(rt.alloc(), &files)?;
-    assert!(rt; same && first.len() == 8);
-    assert!(rt; first.iter().all(|output| output.diags.is_empty()));
+    let found = in_every_order(rt.alloc(), &files)?;
+    assert!(rt; found.same && found.streams == 8 && found.diags == 0);
     Ok(())
 }
 
@@ -130,13 +160,8 @@ fn brings_the_same_in_every_order(rt: HostRuntime) -> Result<(), Fail> {
         ("B.def", HANDING_ON),
         ("C.def", COLORS),
     ];
-    let (first, same) = in_every_order(rt.alloc(), &files)?;
-    assert!(rt; same && first.len() == 5);
-    let mut diags: usize = 0;
-    for output in &first {
-        diags = diags.saturating_add(output.diags.len());
-    }
-    assert!(rt; diags == 3);
+    let found = in_every_order(rt.alloc(), &files)?;
+    assert!(rt; found.same && found.streams == 5 && found.diags == 3);
     Ok(())
 }
 
