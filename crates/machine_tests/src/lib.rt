@@ -1,4 +1,5 @@
-//! Tests of what no command does with objects: parts that are built again, runs in pieces, and sinks and sources that fail.
+//! Tests of what no command does with objects: parts that are built again, runs in pieces, and sinks and sources that
+//! fail.
 #![tactic(auto)]
 
 #[cfg(test)]

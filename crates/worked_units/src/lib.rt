@@ -1,7 +1,8 @@
 //! What do the definitions and the laws on units say of whole units?
 //!
-//! Units that were worked out by hand are trees in `specs`: what the definitions note of them, and which rows they make, is
-//! the contract of functions that do nothing. `whole_unit` gathers a unit, and each law on units holds of what it gives.
+//! Units that were worked out by hand are trees in `specs`: what the definitions note of them, and which rows they
+//! make, is the contract of functions that do nothing. `whole_unit` gathers a unit, and each law on units holds of what
+//! it gives.
 #![tactic(auto)]
 
 mod gathered;
