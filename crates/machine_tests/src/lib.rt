@@ -1,8 +1,7 @@
-//! Tests of the calls that read and run objects: those of `code_form`, `object_file` and `stack_machine`.
+//! Tests of what no command does with objects: parts that are built again, runs in pieces, and sinks and sources that
+//! fail.
 #![tactic(auto)]
 
-#[cfg(test)]
-mod of_code_form;
 #[cfg(test)]
 mod of_object_file;
 #[cfg(test)]

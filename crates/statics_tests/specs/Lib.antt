@@ -1,2 +1,0 @@
-pub mod OwnDefinitions
-pub mod Samples

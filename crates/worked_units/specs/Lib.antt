@@ -1,0 +1,3 @@
+pub mod Laws
+pub mod OwnDefinitions
+pub mod SeveralBlocks
