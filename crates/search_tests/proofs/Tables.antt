@@ -6,7 +6,7 @@ use Rattle.ll_grammar.specs.Derivations.{Derives, Tree, of_empty, of_left, of_ri
 use Rattle.ll_grammar.specs.Grammar.{sub}
 use Rattle.ll_grammar.specs.LookAhead.{member}
 use Rattle.std.specs.Prelude.{Option, option_to_list}
-use Rattle.m2_base.specs.Finished.{IsFinished, main_tokens, tokens_in}
+use Rattle.m2_base.specs.Finished.{IsFinished, tokens_in}
 use Rattle.m2_base.specs.Grammar.{grammar, main}
 use Rattle.m2_base.specs.KindNumbers.{kind_number}
 use Rattle.m2_base.specs.Units.{TextOf, UnitTexts}

@@ -21,10 +21,13 @@ pub(crate) fn unit_with(alloc: Global, names: u32) -> Result<Texts, Memory>
     if text.len() > MOST_TEXT_BYTES {
         return Err(Memory);
     }
-    match lone_text(alloc, b"M", &text) {
-        Ok(texts) if begins_with_fault(&texts.main().tokens) => Ok(texts),
-        _ => Err(Memory),
+    let Ok(texts) = lone_text(alloc, b"M", text.as_slice()) else {
+        return Err(Memory);
+    };
+    if !begins_with_fault(&texts.main().tokens) {
+        return Err(Memory);
     }
+    Ok(texts)
 }
 
 /// Whether the first token is a fault.

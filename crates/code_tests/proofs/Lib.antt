@@ -1,3 +1,0 @@
-mod EnteredRows
-mod MadeFragments
-mod Withs
