@@ -1,11 +1,11 @@
 // A plain interpreter of the stack machine's operations, to compare the machine's speed with. It has the same operations
-// in the same order as `m2_bench run`, decoded once, in one loop with a switch; it tests what the definition of a step tests
+// in the same order as the modules of bench/shapes.py, but for one or two in a loop; they are decoded once, in one loop with a switch; it tests what the definition of a step tests
 // (addresses, ranges, indices, room of a frame), and no operands.
 //
 //   cc -O2 -o machine bench/machine.c && ./machine add 10000000
 //
 // The programs: add (a sum in a WHILE loop), index (an element of an array in a WHILE loop), call (a procedure of one
-// parameter in a WHILE loop). It prints the operations and the milliseconds, as m2_bench does.
+// parameter in a WHILE loop). It prints the operations and the milliseconds.
 #include <stdint.h>
 #include <stdio.h>
 #include <stdlib.h>

@@ -5,16 +5,15 @@ use std::alloc::{AllocError, Global};
 use std::collections::BTreeMap;
 
 /// A case: its name, and its other lines. Each line has a mark, and behind a blank what it says.
-#[derive(Clone, Copy, Debug)]
+#[derive(Clone, Copy)]
 pub struct Case<'a> {
     pub name: &'a str,
     body: &'a str,
 }
 
-/// What a line says, where it has this mark.
-fn behind<'a>(line: &'a str, mark: &str) -> Option<&'a str> {
-    let (own, rest) = line.split_once(' ').unwrap_or((line, ""));
-    if own == mark { Some(rest) } else { None }
+/// The mark of a line, and what it says.
+fn parts(line: &str) -> (&str, &str) {
+    line.split_once(' ').unwrap_or((line, ""))
 }
 
 /// Adds the same bytes so many times, as a line of a case says it, to the line before.
@@ -33,11 +32,13 @@ fn push_times(alloc: Global, text: &mut Vec<u8>, line: &str) -> Result<()> {
 fn text_of(alloc: Global, lines: &str) -> Result<Vec<u8>> {
     let mut text = Vec::new(alloc);
     for line in lines.lines() {
-        if let Some(rest) = behind(line, "|") {
-            text.extend_from_slice(&unescaped(alloc, rest)?)?;
-            text.push(b'\n')?;
-        } else if let Some(rest) = behind(line, "*") {
-            push_times(alloc, &mut text, rest)?;
+        match parts(line) {
+            ("|", rest) => {
+                text.extend_from_slice(&unescaped(alloc, rest)?)?;
+                text.push(b'\n')?;
+            }
+            ("*", rest) => push_times(alloc, &mut text, rest)?,
+            _ => {}
         }
     }
     text.pop();
@@ -48,33 +49,27 @@ impl<'a> Case<'a> {
     /// The case that these lines are.
     pub fn of_block(block: &'a str) -> Option<Case<'a>> {
         let (head, body) = block.split_once('\n')?;
-        let name = behind(head, "case")?;
+        let name = head.strip_prefix("case ")?;
         Some(Case { name, body })
     }
 
     /// What the first line with this mark says.
     pub fn first(&self, mark: &str) -> Option<&'a str> {
         for line in self.body.lines() {
-            if let Some(rest) = behind(line, mark) {
+            let (own, rest) = parts(line);
+            if own == mark {
                 return Some(rest);
             }
         }
         None
     }
 
-    /// How many lines have this mark.
-    pub fn count(&self, mark: &str) -> usize {
-        self.body
-            .lines()
-            .filter(|line| behind(line, mark).is_some())
-            .count()
-    }
-
     /// What the lines with this mark say, each with its end.
     pub fn lines(&self, alloc: Global, mark: &str) -> Result<String, AllocError> {
         let mut all = String::new(alloc);
         for line in self.body.lines() {
-            if let Some(rest) = behind(line, mark) {
+            let (own, rest) = parts(line);
+            if own == mark {
                 all.push_str(rest)?;
                 all.push('\n')?;
             }
@@ -94,21 +89,16 @@ impl<'a> Case<'a> {
         self.text(alloc, &file)
     }
 
-    /// The lines of a file, or all lines of a case without files.
-    fn lines_in(&self, file: &str) -> &'a str {
+    /// The text of a file, or the only text of a case without files.
+    pub fn text(&self, alloc: Global, file: &str) -> Result<Vec<u8>> {
         for part in self.body.split("\nfile ").skip(1) {
             if let Some((name, lines)) = part.split_once('\n')
                 && name == file
             {
-                return lines;
+                return text_of(alloc, lines);
             }
         }
-        self.body
-    }
-
-    /// The text of a file, or the only text of a case without files.
-    pub fn text(&self, alloc: Global, file: &str) -> Result<Vec<u8>> {
-        text_of(alloc, self.lines_in(file))
+        text_of(alloc, self.body)
     }
 
     /// The texts of all files, under their names. The first line of the case is none of a file.

@@ -25,13 +25,16 @@ fn recoded(alloc: Global, code: &[u8]) -> Result<Vec<u8>> {
 
 /// Writes what an object says of a procedure: its cells, its greatest height, its data or a dash, and its code.
 fn write_procedure(alloc: Global, lines: &mut String, procedure: &ProcCode) -> Result<()> {
-    let (locals, high) = (procedure.locals, procedure.high);
-    let data = match procedure.bytes.is_empty() {
-        true => String::from_str(alloc, "-")?,
-        false => digits_of(alloc, &procedure.bytes)?,
-    };
+    let mut data = digits_of(alloc, &procedure.bytes)?;
+    if data.is_empty() {
+        data.push('-')?;
+    }
     let code = digits_of(alloc, &recoded(alloc, &procedure.code)?)?;
-    writeln!(lines, "{locals} {high} {data} {code}")?;
+    writeln!(
+        lines,
+        "{} {} {data} {code}",
+        procedure.locals, procedure.high
+    )?;
     Ok(())
 }
 

@@ -51,14 +51,6 @@ pub fn unescaped(alloc: Global, text: &str) -> Result<Vec<u8>> {
     Ok(bytes)
 }
 
-/// The bytes within quotes.
-pub fn unquoted(alloc: Global, text: &str) -> Result<Vec<u8>> {
-    let inner = text
-        .strip_prefix('"')
-        .and_then(|rest| rest.strip_suffix('"'));
-    unescaped(alloc, inner.context("no quotes")?)
-}
-
 /// Bytes with escapes.
 pub fn escaped(alloc: Global, bytes: &[u8]) -> Result<String, AllocError> {
     let mut text = String::new(alloc);

@@ -8,22 +8,19 @@
 
 mod case;
 mod codes;
-mod diagnostics;
+mod declaring;
 mod escapes;
 mod lexemes;
 mod objects;
+mod reading;
 mod rows;
 mod runs;
 mod sets;
 mod shelves;
 mod streams;
-mod syntax;
-mod tally;
-mod units;
 
 use crate::case::Case;
-use crate::sets::Set;
-use crate::tally::Tally;
+use crate::sets::{SETS, Set, answer, wanted};
 use anyhow::{Context, Result};
 use m2_io::{FolderShelf, Shelf};
 use std::alloc::Global;
@@ -32,64 +29,81 @@ use std::process::ExitCode;
 /// The most bytes of a file of cases.
 const MOST_BYTES: usize = 16_777_216;
 
+/// How many cases passed and failed, and how many weren't tried.
+#[derive(Clone, Copy)]
+struct Tally {
+    passed: u32,
+    failed: u32,
+    left_out: u32,
+}
+
 fn main(rt: HostRuntime) -> Result<ExitCode> {
     let folder = String::from_str(rt.alloc(), ".")?;
     let mut shelf = FolderShelf::new(rt.clone()?, folder);
-    let mut all = Tally::new();
-    for set in Set::ALL {
-        let text = text_of(rt.alloc(), &mut shelf, set)?;
-        let tally = try_set(&rt, set, &text)?;
-        println!(rt; "{set}: {tally}")?;
-        all = all.with(tally);
+    let (mut passed, mut failed) = (0u32, 0u32);
+    for (set, name) in SETS {
+        let text = text_of(rt.alloc(), &mut shelf, name)?;
+        let tally = try_set(&rt, set, name, &text)?;
+        let left_out = match tally.left_out {
+            0 => String::new(rt.alloc()),
+            many => format!(in rt.alloc(); ", {many} not tried")?,
+        };
+        println!(rt;
+            "{name}: {} passed, {} failed{left_out}",
+            tally.passed, tally.failed
+        )?;
+        passed = passed.saturating_add(tally.passed);
+        failed = failed.saturating_add(tally.failed);
     }
-    let Tally { passed, failed, .. } = all;
     println!(rt; "{passed} passed, {failed} failed")?;
-    if failed == 0 {
-        Ok(ExitCode::SUCCESS)
-    } else {
-        Ok(ExitCode::FAILURE)
+    match failed {
+        0 => Ok(ExitCode::SUCCESS),
+        _ => Ok(ExitCode::FAILURE),
     }
 }
 
 /// The text of a set's file.
-fn text_of<S: Shelf>(alloc: Global, shelf: &mut S, set: Set) -> Result<String> {
-    let name = format!(in alloc; "{set}.txt")?;
-    let found = shelf.get(alloc, &name, MOST_BYTES)?;
-    let bytes = found.context("a set has no file")?;
-    Ok(String::from_utf8(bytes)?)
+fn text_of<S: Shelf>(alloc: Global, shelf: &mut S, name: &str) -> Result<String> {
+    let file = format!(in alloc; "{name}.txt")?;
+    let found = shelf.get(alloc, &file, MOST_BYTES)?;
+    Ok(String::from_utf8(found.context("a set has no file")?)?)
 }
 
 /// Tries each case of a set, and prints those that differ.
-fn try_set<R: Print + AllocGlobal>(rt: &R, set: Set, text: &str) -> Result<Tally> {
-    let mut tally = Tally::new();
+fn try_set<R: Print + AllocGlobal>(rt: &R, set: Set, name: &str, text: &str) -> Result<Tally> {
+    let mut tally = Tally {
+        passed: 0,
+        failed: 0,
+        left_out: 0,
+    };
     for block in text.split("\n\n") {
-        if let Some(case) = Case::of_block(block) {
-            try_case(rt, set, &case, &mut tally)?;
+        let Some(case) = Case::of_block(block) else {
+            continue;
+        };
+        match try_case(rt, set, name, &case)? {
+            Some(true) => tally.passed = tally.passed.saturating_add(1),
+            Some(false) => tally.failed = tally.failed.saturating_add(1),
+            None => tally.left_out = tally.left_out.saturating_add(1),
         }
     }
     Ok(tally)
 }
 
-/// Tries a case. An answer that there isn't is what is told of why.
+/// Whether a case passes, if it is tried. An answer that there isn't is what is told of why.
 fn try_case<R: Print + AllocGlobal>(
     rt: &R,
     set: Set,
+    name: &str,
     case: &Case,
-    tally: &mut Tally,
-) -> Result<()> {
-    let alloc = rt.alloc();
-    let found = match set.answer(alloc, case) {
+) -> Result<Option<bool>> {
+    let found = match answer(rt.alloc(), set, case) {
         Ok(Some(answer)) => answer,
-        Ok(None) => {
-            tally.leave_out();
-            return Ok(());
-        }
-        Err(error) => format!(in alloc; "{error}\n")?,
+        Ok(None) => return Ok(None),
+        Err(error) => format!(in rt.alloc(); "{error}\n")?,
     };
-    let wanted = set.wanted(alloc, case)?;
-    tally.count(found == wanted);
+    let wanted = wanted(rt.alloc(), set, case)?;
     if found != wanted {
-        println!(rt; "{set} {}: wanted\n{wanted}got\n{found}", case.name)?;
+        println!(rt; "{name} {}: wanted\n{wanted}got\n{found}", case.name)?;
     }
-    Ok(())
+    Ok(Some(found == wanted))
 }

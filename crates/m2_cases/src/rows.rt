@@ -1,18 +1,11 @@
 //! The rows of a module of one block, and what is noted of its declarations.
-ghost use Rattle.std.specs.Prelude.{◌≡◌};
-ghost use Rattle.m2_base.specs.Views.{stream_view};
-ghost use Rattle.scope_core.specs.PlainScopes.{state_of};
-ghost use Rattle.m2_samples.specs.Filled.{IsFull, around_at};
-ghost use Rattle.m2_samples.specs.Samples.{IsSample};
-
 use crate::case::Case;
+use crate::declaring::{Made, analysed};
 use crate::lexemes::name_of;
-use crate::units::unit_of;
+use crate::reading::{Sample, read};
+use crate::streams::unit_of;
 use anyhow::{Context, Result, ensure};
-use decl_sem::close_check;
-use m2_base::{Answer, Ask, Diag, MOST_CELLS, Memory, Names, Notes, Row, TokenKind};
-use m2_samples::{Block, Made, Sample, around, layout_of, read, scopes};
-use scope_core::PlainScopes;
+use m2_base::{Answer, Diag, MOST_CELLS, Memory, Names, Notes, Row, TokenKind};
 use std::alloc::Global;
 use std::fmt::Write;
 use type_rules::TEXT;
@@ -25,38 +18,6 @@ const FIELD: u8 = 7;
 /// A sample's text has a fault before the module's: its tokens have numbers that are greater by one.
 const FAULT: &[u8] = b"!";
 
-/// Notes what the end of a block is refused for.
-fn close(scopes: &mut PlainScopes, of: &Block, made: &mut Made) -> Result<(), Memory>
-    requires sample { IsSample of.now.sample.now.texts (stream_view of.now.sample.now.tree) }
-    requires around { of.now.around.now ≡ around_at 0 }
-    requires full { IsFull (state_of scopes.old).frame of.now.sample.now.texts 1 }
-{
-    let alloc = *made.rows.allocator();
-    let site = of.site(None);
-    match close_check(alloc, scopes, &site, &of.sample.tree)? {
-        Ask::Known(notes) => made.notes.diags.extend_from_slice(&notes.diags)?,
-        Ask::DontKnowYet(_) => return Err(Memory),
-    }
-    Ok(())
-}
-
-/// What the analysis of a sample makes.
-fn analysed(alloc: Global, sample: &Sample) -> Result<Made, Memory>
-    requires { IsSample sample.now.texts (stream_view sample.now.tree) }
-{
-    let around = around(alloc, 0)?;
-    let layout = layout_of(alloc, sample)?;
-    let of = Block {
-        sample,
-        around: &around,
-        layout: &layout,
-    };
-    let mut made = Made::new(alloc);
-    let mut scopes = scopes(&of, &mut made)?;
-    close(&mut scopes, &of, &mut made)?;
-    Ok(made)
-}
-
 /// What the analysis of a module's text makes, with the names of its unit.
 fn made_of(alloc: Global, text: &[u8]) -> Result<(Names, Made), Memory> {
     let sample = read(alloc, text)?;
@@ -66,31 +27,10 @@ fn made_of(alloc: Global, text: &[u8]) -> Result<(Names, Made), Memory> {
 }
 
 /// A name, or a dash for none.
-fn name_or_dash(alloc: Global, names: &Names, number: u32) -> Result<String> {
+fn name_or_dash(alloc: Global, names: &Names, number: u64) -> Result<String> {
     match number {
         0 => Ok(String::from_str(alloc, "-")?),
-        _ => name_of(alloc, names, u64::from(number)),
-    }
-}
-
-/// The second number of a row: of a constant of the strings' type its characters.
-fn value_of(alloc: Global, names: &Names, row: &Row) -> Result<String> {
-    if row.kind == CONSTANT && row.a == i64::from(TEXT.ordinal) {
-        let text = name_of(alloc, names, row.b.unsigned_abs())?;
-        return Ok(format!(in alloc; "\"{text}\"")?);
-    }
-    Ok(format!(in alloc; "{}", row.b)?)
-}
-
-/// The last number of a row, which only a field has: its name.
-fn field_of(alloc: Global, names: &Names, row: &Row) -> Result<String> {
-    ensure!(row.d == 0, "a row with one number more");
-    match row.kind {
-        FIELD => Ok(name_of(alloc, names, row.e.unsigned_abs())?),
-        _ => {
-            ensure!(row.e == 0, "a row with two numbers more");
-            name_or_dash(alloc, names, 0)
-        }
+        _ => name_of(alloc, names, number),
     }
 }
 
@@ -99,13 +39,31 @@ fn own_number(at: u32) -> u32 {
     at.saturating_sub(1)
 }
 
+/// Writes a row. The second number of a constant of the strings' type is its characters, and the last one of a field
+/// is its name.
 fn write_row(alloc: Global, lines: &mut String, names: &Names, row: &Row) -> Result<()> {
-    let Row { kind, a, c, .. } = *row;
-    let name = name_or_dash(alloc, names, row.name)?;
+    let Row {
+        kind,
+        a,
+        b,
+        c,
+        d,
+        e,
+        ..
+    } = *row;
+    ensure!(d == 0, "a row with one number more");
+    ensure!(kind == FIELD || e == 0, "a row with two numbers more");
+    let name = name_or_dash(alloc, names, u64::from(row.name))?;
     let at = own_number(row.at);
-    let value = value_of(alloc, names, row)?;
-    let field = field_of(alloc, names, row)?;
-    writeln!(lines, "row {name} {kind} {at} {a} {value} {c} {field}")?;
+    write!(lines, "row {name} {kind} {at} {a} ")?;
+    if kind == CONSTANT && a == i64::from(TEXT.ordinal) {
+        let text = name_of(alloc, names, b.unsigned_abs())?;
+        write!(lines, "\"{text}\"")?;
+    } else {
+        write!(lines, "{b}")?;
+    }
+    let field = name_or_dash(alloc, names, e.unsigned_abs())?;
+    writeln!(lines, " {c} {field}")?;
     Ok(())
 }
 
@@ -141,11 +99,10 @@ fn first_statement(alloc: Global, case: &Case) -> Result<u32> {
 
 /// The token of a line, if it is one of notes.
 fn token_of(line: &str) -> Option<u32> {
-    let is_note = line.starts_with("diagnostic ") || line.starts_with("answer ");
-    if !is_note {
-        return None;
+    if line.starts_with("diagnostic ") || line.starts_with("answer ") {
+        return line.split(' ').nth(2)?.parse().ok();
     }
-    line.split(' ').nth(2)?.parse().ok()
+    None
 }
 
 /// The lines without the notes of statements.
@@ -165,17 +122,6 @@ pub fn wanted(alloc: Global, case: &Case) -> Result<String> {
     without_statements(alloc, case, &case.lines(alloc, ">")?)
 }
 
-/// How many blocks the unit of a case has.
-fn count_blocks(alloc: Global, case: &Case) -> Result<usize> {
-    let wanted = case.lines(alloc, ">")?;
-    Ok(
-        wanted
-            .lines()
-            .filter(|line| line.starts_with("block "))
-            .count(),
-    )
-}
-
 /// The lines of what the analysis of a module makes: its block, its rows and its notes.
 fn lines_of(alloc: Global, file: &str, names: &Names, made: Made) -> Result<String> {
     let mut lines = format!(in alloc; "block 1 Main {file} outer 0 level 0 chain 1\n")?;
@@ -189,7 +135,8 @@ fn lines_of(alloc: Global, file: &str, names: &Names, made: Made) -> Result<Stri
 
 /// A unit of several blocks can't be analysed by these calls yet.
 pub fn answer(alloc: Global, case: &Case) -> Result<Option<String>> {
-    if count_blocks(alloc, case)? != 1 {
+    let wanted = case.lines(alloc, ">")?;
+    if wanted.split("block ").count() != 2 {
         return Ok(None);
     }
     let mut text = FAULT.to_vec(alloc)?;

@@ -1,12 +1,12 @@
 //! The sets of cases.
 use crate::case::Case;
-use crate::{codes, diagnostics, lexemes, objects, rows, runs, shelves, streams, syntax};
-use anyhow::Result;
+use crate::{codes, lexemes, objects, rows, runs, shelves, streams};
+use anyhow::{Context, Result};
+use m2_base::Diagnostic;
 use std::alloc::Global;
-use std::fmt;
 
-/// A set of cases, which has its name from its file.
-#[derive(Clone, Copy, Debug, PartialEq, Eq)]
+/// A set of cases.
+#[derive(Clone, Copy)]
 pub enum Set {
     /// Texts with their tokens.
     Lex,
@@ -28,68 +28,49 @@ pub enum Set {
     Diagnostics,
 }
 
-impl Set {
-    pub const ALL: [Set; 9] = [
-        Set::Lex,
-        Set::Syntax,
-        Set::Streams,
-        Set::Shelves,
-        Set::Rows,
-        Set::Blocks,
-        Set::Objects,
-        Set::Runs,
-        Set::Diagnostics,
-    ];
+/// The sets, with the names that they have from their files.
+pub const SETS: [(Set, &str); 9] = [
+    (Set::Lex, "lex"),
+    (Set::Syntax, "syntax"),
+    (Set::Streams, "streams"),
+    (Set::Shelves, "shelves"),
+    (Set::Rows, "rows"),
+    (Set::Blocks, "blocks"),
+    (Set::Objects, "objects"),
+    (Set::Runs, "runs"),
+    (Set::Diagnostics, "diagnostics"),
+];
 
-    fn name(self) -> &'static str {
-        match self {
-            Set::Lex => "lex",
-            Set::Syntax => "syntax",
-            Set::Streams => "streams",
-            Set::Shelves => "shelves",
-            Set::Rows => "rows",
-            Set::Blocks => "blocks",
-            Set::Objects => "objects",
-            Set::Runs => "runs",
-            Set::Diagnostics => "diagnostics",
-        }
-    }
-
-    /// The mark of the lines that are wanted.
-    fn mark(self) -> &'static str {
-        match self {
-            Set::Syntax => "fault",
-            Set::Blocks => "procedure",
-            _ => ">",
-        }
-    }
-
-    /// The lines that a case wants.
-    pub fn wanted(self, alloc: Global, case: &Case) -> Result<String> {
-        match self {
-            Set::Rows => rows::wanted(alloc, case),
-            _ => Ok(case.lines(alloc, self.mark())?),
-        }
-    }
-
-    /// What is answered to a case, in the form of the lines that are wanted; none where no call takes it yet.
-    pub fn answer(self, alloc: Global, case: &Case) -> Result<Option<String>> {
-        match self {
-            Set::Lex => Ok(Some(lexemes::answer(alloc, case)?)),
-            Set::Syntax => Ok(Some(syntax::answer(alloc, case)?)),
-            Set::Streams => Ok(Some(streams::answer(alloc, case)?)),
-            Set::Shelves => Ok(Some(shelves::answer(alloc, case)?)),
-            Set::Rows => rows::answer(alloc, case),
-            Set::Blocks => codes::answer(alloc, case),
-            Set::Objects => Ok(Some(objects::answer(alloc, case)?)),
-            Set::Runs => runs::answer(alloc, case),
-            Set::Diagnostics => Ok(Some(diagnostics::answer(alloc, case)?)),
-        }
+/// The lines that a case wants.
+pub fn wanted(alloc: Global, set: Set, case: &Case) -> Result<String> {
+    match set {
+        Set::Rows => rows::wanted(alloc, case),
+        Set::Syntax => Ok(case.lines(alloc, "fault")?),
+        Set::Blocks => Ok(case.lines(alloc, "procedure")?),
+        _ => Ok(case.lines(alloc, ">")?),
     }
 }
 
-impl fmt::Display for Set {
-    fn fmt<W: fmt::Write>(&self, f: &mut fmt::Formatter<W>) -> fmt::Result {
-        f.write_str(self.name())
+/// What is answered to a case, in the form of the lines that are wanted; none where no call takes it yet.
+pub fn answer(alloc: Global, set: Set, case: &Case) -> Result<Option<String>> {
+    match set {
+        Set::Lex => Ok(Some(lexemes::answer(alloc, case)?)),
+        Set::Syntax => Ok(Some(streams::fault_answer(alloc, case)?)),
+        Set::Streams => Ok(Some(streams::answer(alloc, case)?)),
+        Set::Shelves => Ok(Some(shelves::answer(alloc, case)?)),
+        Set::Rows => rows::answer(alloc, case),
+        Set::Blocks => codes::answer(alloc, case),
+        Set::Objects => Ok(Some(objects::answer(alloc, case)?)),
+        Set::Runs => runs::answer(alloc, case),
+        Set::Diagnostics => Ok(Some(listed(alloc, case)?)),
+    }
+}
+
+/// The code and the text of its diagnostic; `none` where it is no diagnostic's.
+fn listed(alloc: Global, case: &Case) -> Result<String> {
+    let code = case.first("code").context("no code")?.parse::<u8>()?;
+    match Diagnostic::of_code(code) {
+        Some(diagnostic) => Ok(format!(in alloc; "{diagnostic}\n")?),
+        None => Ok(String::from_str(alloc, "none\n")?),
     }
 }

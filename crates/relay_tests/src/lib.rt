@@ -4,10 +4,7 @@
 //! and may have to wait for another one first. The tests run such jobs with 1, 2, 8 and 64 workers (`of_relay`).
 #![tactic(auto)]
 
+#[cfg(test)]
 mod countdown;
 #[cfg(test)]
 mod of_relay;
-mod starting;
-
-pub use countdown::{Countdown, Counting, count_down};
-pub use starting::{Start, jobs_of};

@@ -66,7 +66,7 @@ can_enter st names room many more has fits there =
           (subst (λ (x : Row). IsWellFormed (length (texts_of st).names) (at_place 1 (length st.frame.entered + k)) x) (sym at.is)
           (formed_row (length (texts_of st).names) (first_name + many + k) (length st.frame.entered + k) (let n = has.there in let w = at.within in omega (arith, n, w, there))));
       once = subst (HasNoRepeats (λ (r : Row). r.name)) (sym ((λ i. has.entered i ++ rows_named (first_name + many) more) ∙ rows_more first_name many more)) (once first_name (many + more));
-      next = λ tables h. absurd (has.none tables h);
+      next = λ tables h. absurd (has.unread tables h);
     }
 
 pub has_more : (st new : State) (names room many more : ℕ) → HasNamed st names room many → many + more ≤ room → Entered st new (rows_named (first_name + many) more) → HasNamed new names room (many + more)
@@ -74,7 +74,7 @@ has_more st new names room many more has fits done =
     let frame = done.frame in
     record {
       there = subst (λ (f : Frame). names ≤ length f.setting.texts.names) (sym frame) has.there;
-      none = λ tables h. has.none tables (subst (λ (u : UnitTexts). IsFinished u tables) (ap (λ (f : Frame). f.setting.texts) frame) h);
+      unread = λ tables h. has.unread tables (subst (λ (u : UnitTexts). IsFinished u tables) (ap (λ (f : Frame). f.setting.texts) frame) h);
       fills = ap (λ (f : Frame). f.setting.fills) frame ∙ has.fills;
       area = ap (λ (f : Frame). slice_index f.setting.areas 1) frame ∙ has.area;
       entered = ap (λ (f : Frame). f.entered) frame ∙ ((λ i. has.entered i ++ rows_named (first_name + many) more) ∙ rows_more first_name many more);
@@ -84,7 +84,7 @@ has_more st new names room many more has fits done =
     }
 
 pub can_complete : (st : State) (names room many : ℕ) → HasNamed st names room many → CanComplete st
-can_complete st names room many has = record { open_yet = has.open_yet; all = λ tables h. absurd (has.none tables h) }
+can_complete st names room many has = record { open_yet = has.open_yet; all = λ tables h. absurd (has.unread tables h) }
 
 -- one row more behind others
 pub rows_step : (first n : ℕ) (rows more : List Row) (r : Row) → first ≤ n → rows ≡ rows_named first (n - first) → rows_named n 1 ≡ r ∷ [] → more ≡ rows ++ r ∷ [] → more ≡ rows_named first (n + 1 - first)

@@ -2,13 +2,10 @@
 ghost use Rattle.std.specs.Prelude.{◌≡◌, ◌+◌, ◌^◌, ◌<◌, ◌∷◌, [], IfOk};
 ghost use Rattle.scope_table.specs.Seats.{IsFirst};
 ghost use Rattle.dky_search.specs.SeatScopes.{state_of};
-ghost use Rattle.m2_base.specs.Views.{stream_view};
-ghost use Rattle.m2_samples.specs.Samples.{IsSample};
-ghost use Rattle.search_tests.specs.Named.{HasNamed, IsTable, rows_named};
+ghost use Rattle.search_tests.specs.Named.{HasNamed, IsTable, IsUnread, rows_named};
 
 use dky_search::SeatScopes;
-use m2_base::{Memory, Mode, Place, Row, RowMeaning, Scopes, write_row};
-use m2_samples::Sample;
+use m2_base::{Memory, Mode, Place, Row, RowMeaning, Scopes, Texts, write_row};
 use scope_table::{ScopeTable, TableSeat};
 use std::alloc::Global;
 
@@ -55,17 +52,17 @@ impl<'t> Filler<'t> {
     /// No row is there yet.
     pub(crate) fn new(
         table: &'t ScopeTable,
-        sample: &'t Sample,
+        texts: &'t Texts,
         seat: TableSeat,
         room: u32,
     ) -> Filler<'t>
-        requires sample { IsSample sample.now.texts (stream_view sample.now.tree) }
-        requires table { IsTable table.now sample.now.texts room }
+        requires unread { IsUnread texts.now }
+        requires table { IsTable table.now texts.now room }
         requires room { room < 2 ^ 31 }
         requires seat { IsFirst table.now 1 seat }
     {
-        let scopes = SeatScopes::new(table, &sample.texts, seat);
-        let names = sample.texts.names.count();
+        let scopes = SeatScopes::new(table, texts, seat);
+        let names = texts.names.count();
         Filler {
             scopes,
             names,

@@ -1,6 +1,5 @@
-//! Tests of searches over tables that another handle fills meanwhile: what they answer, how many rows they load, and
-//! whether an answer is ever taken back. What a task holds, but for its tree, may be sent to another thread
-//! (`sending`).
+//! Tests of searches over tables that another thread or handle fills meanwhile: what they answer, how many rows they
+//! load, and whether an answer is ever taken back.
 #![tactic(auto)]
 
 #[cfg(test)]
@@ -8,11 +7,8 @@ mod filling;
 #[cfg(test)]
 mod of_dky_search;
 #[cfg(test)]
-mod of_fields;
+mod of_scope_core;
 #[cfg(test)]
 mod of_threads;
 #[cfg(test)]
 mod opening;
-mod sending;
-
-pub use sending::{sends_handles, sends_output, sends_tokens, sent, shared, shares};

@@ -1,8 +1,8 @@
 //! Replies before a row is shown, after it is, and when its scope is complete, by hand; and how many rows are loaded.
-ghost use Rattle.std.specs.Prelude.{◌≢◌, ◌^◌, ◌<◌, ◌≤◌, ◌+◌};
+ghost use Rattle.std.specs.Prelude.{◌≢◌, ◌^◌, ◌<◌, ◌≤◌};
 
 use crate::filling::{FIRST, Filler, row_of};
-use crate::opening::{Opened, open, sample_with};
+use crate::opening::{Opened, open, unit_with};
 use dky_search::SeatScopes;
 use m2_base::{Ask, Head, Memory, Place, Reply, Row, Scopes};
 use std::alloc::Global;
@@ -19,17 +19,13 @@ pub(crate) fn look(scopes: &mut SeatScopes, name: u32) -> Reply
 /// Fetches the row of this ordinal in scope 1.
 fn row_at(scopes: &mut SeatScopes, ordinal: u32) -> Ask<Option<Row>> {
     let _own = scopes.filled();
-    scopes.fetch(0, Place { scope: 1, ordinal })
+    scopes.fetch(0, place(ordinal))
 }
 
 /// Selects a field of the record whose row has this ordinal in scope 1.
-pub(crate) fn field_at(
-    scopes: &mut SeatScopes,
-    ordinal: u32,
-    name: u32,
-) -> Ask<Option<(u32, Row)>> {
+fn field_at(scopes: &mut SeatScopes, ordinal: u32, name: u32) -> Ask<Option<(u32, Row)>> {
     let _own = scopes.filled();
-    scopes.select(Place { scope: 1, ordinal }, name)
+    scopes.select(place(ordinal), name)
 }
 
 /// The head of scope 1 with so many rows, where more may follow.
@@ -41,8 +37,8 @@ fn head(count: u32) -> Head {
     }
 }
 
-/// The place of the row that has so many before it.
-fn place(ordinal: u32) -> Place {
+/// The place of the row of scope 1 that has so many before it.
+pub(crate) fn place(ordinal: u32) -> Place {
     Place { scope: 1, ordinal }
 }
 
@@ -50,14 +46,10 @@ fn place(ordinal: u32) -> Place {
 #[test]
 fn replies_as_rows_are_shown(rt: HostRuntime) -> Result<(), Fail> {
     let alloc = rt.alloc();
-    let sample = sample_with(alloc, 100)?;
-    let Opened {
-        table,
-        first,
-        third,
-    } = open(alloc, &sample.texts, 3)?;
-    let mut filler = Filler::new(&table, &sample, first, 3);
-    let mut reader = SeatScopes::new(&table, &sample.texts, third);
+    let texts = unit_with(alloc, FIRST)?;
+    let Opened { table, one, two } = open(alloc, &texts, 3)?;
+    let mut filler = Filler::new(&table, &texts, one, 3);
+    let mut reader = SeatScopes::new(&table, &texts, two);
     assert_eq!(rt; look(&mut reader, 101), Reply::DontKnowYet(head(0)));
     assert_eq!(rt; row_at(&mut reader, 2), Ask::DontKnowYet(head(0)));
     assert_eq!(rt; field_at(&mut reader, 2, 101), Ask::DontKnowYet(head(0)));
@@ -75,7 +67,6 @@ fn replies_as_rows_are_shown(rt: HostRuntime) -> Result<(), Fail> {
     assert_eq!(rt; field_at(&mut reader, 3, 101), Ask::Known(None));
     assert_eq!(rt; look(&mut reader, 101), found);
     assert_eq!(rt; look(&mut filled, 102), Reply::Found(place(2), row_of(102)));
-    assert_eq!(rt; (filled.filled(), reader.filled()), (1, 3));
     Ok(())
 }
 
@@ -83,35 +74,12 @@ fn replies_as_rows_are_shown(rt: HostRuntime) -> Result<(), Fail> {
 #[test]
 fn tells_another_handle(rt: HostRuntime) -> Result<(), Fail> {
     let alloc = rt.alloc();
-    let sample = sample_with(alloc, 100)?;
-    let Opened {
-        table,
-        first,
-        third,
-    } = open(alloc, &sample.texts, 3)?;
-    let mut teller = SeatScopes::new(&table, &sample.texts, first);
-    let mut reader = SeatScopes::new(&table, &sample.texts, third);
+    let texts = unit_with(alloc, FIRST)?;
+    let Opened { table, one, two } = open(alloc, &texts, 3)?;
+    let mut teller = SeatScopes::new(&table, &texts, one);
+    let mut reader = SeatScopes::new(&table, &texts, two);
     teller.tell(&mut reader);
     assert_eq!(rt; look(&mut reader, 101), Reply::DontKnowYet(head(0)));
-    Ok(())
-}
-
-/// No two handles fill one scope.
-#[test]
-fn lie_apart(rt: HostRuntime) -> Result<(), Fail> {
-    let alloc = rt.alloc();
-    let sample = sample_with(alloc, 100)?;
-    let Opened {
-        table,
-        first,
-        third,
-    } = open(alloc, &sample.texts, 3)?;
-    let one = SeatScopes::new(&table, &sample.texts, first);
-    let other = SeatScopes::new(&table, &sample.texts, third);
-    if one.filled() == other.filled() {
-        one.apart(other);
-        unreachable!();
-    }
     Ok(())
 }
 
@@ -120,16 +88,12 @@ fn lie_apart(rt: HostRuntime) -> Result<(), Fail> {
 fn searched(alloc: Global, many: u32) -> Result<(u32, u64), Memory>
     requires { many < 2 ^ 31 }
 {
-    let sample = sample_with(alloc, FIRST + many)?;
-    let Opened {
-        table,
-        first,
-        third,
-    } = open(alloc, &sample.texts, many)?;
-    let mut filler = Filler::new(&table, &sample, first, many);
+    let texts = unit_with(alloc, FIRST + many)?;
+    let Opened { table, one, two } = open(alloc, &texts, many)?;
+    let mut filler = Filler::new(&table, &texts, one, many);
     filler.enter(alloc, many)?;
     let _filled = filler.complete();
-    let mut reader = SeatScopes::new(&table, &sample.texts, third);
+    let mut reader = SeatScopes::new(&table, &texts, two);
     let mut found = 0u32;
     for name in FIRST..FIRST + many {
         if let Reply::Found(_, _) = look(&mut reader, name) {
@@ -139,20 +103,13 @@ fn searched(alloc: Global, many: u32) -> Result<(u32, u64), Memory>
     Ok((found, reader.rows_loaded()))
 }
 
-/// The names 100 to 1123.
-#[test]
-fn loads_few_of_a_thousand_rows(rt: HostRuntime) -> Result<(), Fail> {
-    let (found, loaded) = searched(rt.alloc(), 1024)?;
-    assert_eq!(rt; found, 1024);
-    assert!(rt; loaded <= 2048, "{loaded} rows for 1,024 names");
-    Ok(())
-}
-
-/// So many rows with names has the scope of a module of as many procedures.
+/// The second number of rows is that of names which the scope of a module of as many procedures has.
 #[test]
 fn loads_at_most_two_rows_a_search(rt: HostRuntime) -> Result<(), Fail> {
-    let (found, loaded) = searched(rt.alloc(), 16_384)?;
-    assert_eq!(rt; found, 16_384);
-    assert!(rt; loaded <= 32_768, "{loaded} rows for 16,384 names");
+    for many in [1024, 16_384] {
+        let (found, loaded) = searched(rt.alloc(), many)?;
+        assert_eq!(rt; found, many);
+        assert!(rt; loaded <= 2 * many as u64, "{loaded} rows for {many} names");
+    }
     Ok(())
 }

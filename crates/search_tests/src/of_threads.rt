@@ -2,10 +2,10 @@
 ghost use Rattle.std.specs.Prelude.{◌≢◌, ◌≤◌, ◌<◌};
 
 use crate::filling::{FIRST, Filler, row_of};
-use crate::of_dky_search::look;
-use crate::opening::{Opened, open, sample_with};
+use crate::of_dky_search::{look, place};
+use crate::opening::{Opened, open, unit_with};
 use dky_search::SeatScopes;
-use m2_base::{Memory, Place, Reply};
+use m2_base::{Memory, Reply};
 use std::alloc::Global;
 use std::test::Fail;
 use std::thread::join;
@@ -41,7 +41,7 @@ fn fill<'t>(alloc: Global, mut filler: Filler<'t>) -> Result<SeatScopes<'t>, Mem
 }
 
 /// What replies have told of the scope: at least so many rows, or all.
-#[derive(Clone, Copy, Debug)]
+#[derive(Clone, Copy)]
 struct Told {
     rows: u32,
     all: bool,
@@ -54,9 +54,9 @@ impl Told {
         requires { ordinal < 10000 }
     {
         match reply {
-            Reply::Found(place, row) => {
+            Reply::Found(at, row) => {
                 self.rows = self.rows.max(ordinal + 1);
-                place == Place { scope: 1, ordinal } && row == row_of(FIRST + ordinal)
+                at == place(ordinal) && row == row_of(FIRST + ordinal)
             }
             Reply::Absent => false,
             Reply::DontKnowYet(head) => {
@@ -105,7 +105,7 @@ fn watch(mut reader: SeatScopes) -> bool {
 /// Whether all names are found.
 fn finds_all(reader: &mut SeatScopes) -> bool {
     for ordinal in 0..ROWS {
-        let found = Reply::Found(Place { scope: 1, ordinal }, row_of(FIRST + ordinal));
+        let found = Reply::Found(place(ordinal), row_of(FIRST + ordinal));
         if look(reader, FIRST + ordinal) != found {
             return false;
         }
@@ -116,15 +116,11 @@ fn finds_all(reader: &mut SeatScopes) -> bool {
 #[test]
 fn takes_no_reply_back(rt: HostRuntime) -> Result<(), Fail> {
     let alloc = rt.alloc();
-    let sample = sample_with(alloc, FIRST + ROWS)?;
+    let texts = unit_with(alloc, FIRST + ROWS)?;
     for run in 0..RUNS {
-        let Opened {
-            table,
-            first,
-            third,
-        } = open(alloc, &sample.texts, ROWS)?;
-        let filler = Filler::new(&table, &sample, first, ROWS);
-        let reader = SeatScopes::new(&table, &sample.texts, third);
+        let Opened { table, one, two } = open(alloc, &texts, ROWS)?;
+        let filler = Filler::new(&table, &texts, one, ROWS);
+        let reader = SeatScopes::new(&table, &texts, two);
         let (agree, filled) = join(&rt, move || watch(reader), move || fill(alloc, filler));
         let mut filled = filled?;
         assert!(rt; agree, "run {run}");

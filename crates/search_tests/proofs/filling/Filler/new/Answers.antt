@@ -1,6 +1,5 @@
 use Rattle.std.proofs.Common.{◌≡◌, ◌≤◌, length, arith, rules, sym, subst}
 use Rattle.m2_base.specs.States.{State}
-use Rattle.m2_base.specs.Views.{stream_view}
 use Rattle.search_tests.specs.Named.{HasNamed}
 use Rattle.search_tests.proofs.Tables.{nothing_named}
 use Rattle.search_tests.proofs.filling.Filler.new.Goals as goal
@@ -12,8 +11,8 @@ new-scopes-requires c =
 
 pub invariant_of-result : goal.invariant_of-result
 invariant_of-result c =
-    let there : c.count-names.result ≤ length c.args.sample.now.texts.names = search rules in
+    let there : c.count-names.result ≤ length c.args.texts.now.names = search rules in
     record {
       filled = subst (λ (st : State). HasNamed st c.count-names.result c.args.room 0) (sym c.new-scopes.ensures.state)
-          (nothing_named c.args.table.now c.args.seat c.args.sample.now.texts (stream_view c.args.sample.now.tree) c.count-names.result c.args.room c.requires.table c.requires.seat c.requires.sample there c.requires.room);
+          (nothing_named c.args.table.now c.args.seat c.args.texts.now c.count-names.result c.args.room c.requires.table c.requires.seat c.requires.unread there c.requires.room);
     }

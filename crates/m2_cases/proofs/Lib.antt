@@ -1,0 +1,4 @@
+mod Declarations
+mod ProcedureRows
+mod ReadSamples
+mod Samples

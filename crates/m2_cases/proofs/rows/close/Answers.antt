@@ -1,8 +1,0 @@
-use Rattle.std.proofs.Common.{◌∙◌}
-use Rattle.m2_samples.proofs.Samples.{site_full}
-use Rattle.m2_cases.proofs.rows.close.Goals as goal
-
-pub close_check-requires-clause-suits : goal.close_check-requires-clause-suits
-close_check-requires-clause-suits c =
-    site_full {level = 0} c.requires.sample c.requires.full
-    (record { texts = c.site-site.ensures.texts; around = c.site-site.ensures.around ∙ c.requires.around })

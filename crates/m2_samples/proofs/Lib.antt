@@ -1,4 +1,0 @@
-pub mod Declarations
-mod ProcedureRows
-mod ReadSamples
-pub mod Samples

@@ -1,5 +1,0 @@
-//! Tests of merging.
-#![tactic(auto)]
-
-#[cfg(test)]
-mod by_hand;

@@ -1,3 +1,0 @@
-pub mod Unread
-pub mod Filled
-pub mod Three
