@@ -1,5 +1,5 @@
 -- With further fragments behind, a flow stands for the same code, and is made of those that are there.
-use Rattle.std.proofs.Common.{◌≡◌, ◌∙◌, ◌++◌, ◌∷◌, [], ℕ, List, Option, Some, ap, sym, subst, refl}
+use Rattle.std.proofs.Common.{◌≡◌, ◌∙◌, ◌∷◌, [], ℕ, List, Option, Some, ap, sym, subst, refl}
 use Rattle.std.proofs.Math.Path.{fun_ext}
 use Rattle.code_form.specs.declared.instr.Instr.TheVariants.{Load, Local, Store}
 use Rattle.expr_sem.specs.Fragments.{Grows, part}

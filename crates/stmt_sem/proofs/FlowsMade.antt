@@ -1,6 +1,6 @@
 -- Flows made of others, as one that is made.
 use Rattle.std.proofs.Math.Path.{fun_ext}
-use Rattle.std.proofs.Common.{◌≡◌, ◌∙◌, ◌++◌, [], ◌∷◌, ℕ, ◌+◌, List, Result, Ok, Err, ap, refl, append-nil, arith, true, false}
+use Rattle.std.proofs.Common.{◌≡◌, ◌∙◌, ◌++◌, [], ◌∷◌, ℕ, ◌+◌, List, Result, Ok, Err, ap, refl, append-nil, arith}
 use Rattle.code_form.specs.Heights.{Step}
 use Rattle.m2_base.specs.declared.memory.Memory.{Memory}
 use Rattle.expr_sem.specs.declared.fragments.Node.{Node}

@@ -1,5 +1,5 @@
 -- What is read of a statement is read of its parts, and its parts are smaller.
-use Rattle.std.proofs.Common.{◌≡◌, ◌+◌, ◌-◌, ℕ, zero, suc, ◌<◌, List, [], ◌∷◌, Option, Some, None, map, refl, sym, subst, arith, length}
+use Rattle.std.proofs.Common.{◌≡◌, ◌+◌, ◌-◌, ◌*◌, ℕ, zero, suc, ◌<◌, ◌≤◌, List, [], ◌∷◌, Option, Some, None, map, refl, sym, subst, arith, length}
 use Rattle.std.specs.Prelude.{get_or}
 use Rattle.std.specs.declared.alloc.Global.{Global}
 use Rattle.std.specs.declared.vec.Vec.{Vec}
@@ -100,3 +100,33 @@ else_body_smaller s value arms other body e is = grind (arith, size_is-Statement
 pub rest_smaller : (s : Statement) (value : Expr) (arms : Vec CaseArm Global) (other : Option (Vec Statement Global)) → s.form ≡ Case value arms other → rest_size other < size-Statement s
 rest_smaller s value arms None e = grind (arith, size_is-Statement, sized-Case)
 rest_smaller s value arms (Some body) e = else_body_smaller s value arms (Some body) body e refl
+
+-- ---- measures: eight times a size, and a last figure
+
+-- the same size, and a lower figure
+pub lower : (n j d t : ℕ) → 8 * n + (j + suc d) ≡ t → 8 * n + j < t
+lower n j d t e = omega (arith, e)
+
+pub same_lower : (l m n j d t : ℕ) → l ≡ m → n ≡ m → 8 * n + (j + suc d) ≡ t → 8 * l + j < t
+same_lower l m n j d t p q e = omega (arith, p, q, e)
+
+-- the first of two sizes, or the second
+pub first_lower : (m n j d t : ℕ) → 8 * greater m n + (j + suc d) ≡ t → 8 * m + j < t
+first_lower m n j d t e = omega (arith, e)
+
+pub second_lower : (m n j d t : ℕ) → 8 * greater m n + (j + suc d) ≡ t → 8 * n + j < t
+second_lower m n j d t e = omega (arith, e)
+
+-- an item
+pub item_lower : (m n k t : ℕ) → m ≤ n → 8 * n + suc k ≡ t → 8 * m < t
+item_lower m n k t h e = omega (arith, h, e)
+
+-- a part, or two of them, or a part of an item
+pub part_lower : (l m n j d t : ℕ) → l ≡ m → m < n → j + suc d ≡ 8 → 8 * n ≡ t → 8 * l + j < t
+part_lower l m n j d t p h f e = omega (arith, p, h, f, e)
+
+pub parts_lower : (l m x y n j d t : ℕ) → l ≡ m → x ≡ y → m < n → y < n → j + suc d ≡ 8 → 8 * n ≡ t → 8 * greater l x + j < t
+parts_lower l m x y n j d t p q h i f e = omega (arith, p, q, h, i, f, e)
+
+pub item_part_lower : (l m n o j k d t : ℕ) → l ≡ m → m < n → n ≤ o → j + suc d ≡ 8 → 8 * o + k ≡ t → 8 * l + j < t
+item_part_lower l m n o j k d t p h i f e = omega (arith, p, h, i, f, e)

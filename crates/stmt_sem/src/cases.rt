@@ -18,7 +18,7 @@ use m2_base::{Ask, Diagnostic, Memory, Notes, Place, Scopes, Site};
 use type_rules::{BROKEN, operand_type};
 
 /// The value of a selector, and its type.
-#[derive(Clone, Copy, Debug, PartialEq, Eq)]
+#[derive(Clone, Copy)]
 pub struct Selected {
     pub value: Fragment,
     pub of: Place,

@@ -1,12 +1,11 @@
 //! The variable of a FOR.
-ghost use Rattle.std.specs.Prelude.{◌≡◌, ◌≢◌, ◌==◌, ◌&&◌, List, is_some};
+ghost use Rattle.std.specs.Prelude.{◌≡◌, ◌≢◌, List};
 ghost use Rattle.m2_base.specs.Rows.{row_meaning};
 ghost use Rattle.m2_base.specs.States.{Waits};
-ghost use Rattle.m2_base.specs.Statics.Types.{range_of as spec_range};
 ghost use Rattle.expr_sem.specs.Codings.{Coding, IsCoded, coded_in};
 ghost use Rattle.expr_sem.specs.declared.fragments.Node.{Node};
 ghost use Rattle.type_rules.specs.Asks.{Reads, WhereKnown, WhereWaiting};
-ghost use Rattle.type_rules.specs.Scenes.{IsRowOf, IsThere, Suits, WhereTold, scene_of};
+ghost use Rattle.type_rules.specs.Scenes.{IsRowOf, Suits, WhereTold, scene_of};
 ghost use Rattle.type_rules.specs.Sites.{SuitsSite};
 ghost use Rattle.stmt_sem.specs.Counting.{can_control as spec_can, control_variable as spec_variable, controls_by};
 ghost use Rattle.stmt_sem.specs.Stands.{IsStand};
@@ -21,23 +20,6 @@ use m2_base::{
 };
 use type_rules::{range_of, use_name};
 
-/// Whether a variable of this scope and type is an ordinal one of the block itself.
-#[tactic(auto, using(type_rules::proofs::Reading::reading))]
-fn is_own_ordinal<S: Scopes>(scopes: &mut S, around: &Around, scope: u32, of: Place) -> Ask<bool>
-    requires suits { Suits (S.state scopes.old).frame around.now }
-    requires of { IsThere (S.state scopes.old).frame of }
-    ensures reads { Reads (S.state scopes.old) (S.state scopes.new) }
-    ensures waits { WhereWaiting result (λ head. Waits (S.state scopes.old) (S.state scopes.new) head) }
-    ensures told { WhereTold (S.state scopes.old).frame (λ made.
-        WhereKnown result (λ holds. holds ≡ ((scope == around.now.scope)
-        && is_some (spec_range (scene_of (S.state scopes.old).frame made around.now) of)))) }
-{
-    if scope != around.scope {
-        return Ask::Known(false);
-    }
-    Ask::Known(known!(range_of(scopes, around, of)).is_some())
-}
-
 /// Whether an entry is an ordinal variable of the block itself whose cell holds it.
 #[tactic(auto, using(type_rules::proofs::Reading::reading))]
 fn can_control<S: Scopes>(scopes: &mut S, around: &Around, entry: (Place, Row)) -> Ask<bool>
@@ -50,7 +32,12 @@ fn can_control<S: Scopes>(scopes: &mut S, around: &Around, entry: (Place, Row)) 
         holds ≡ spec_can (scene_of (S.state scopes.old).frame made around.now) entry.0.scope (row_meaning entry.1))) }
 {
     match read_row(&entry.1) {
-        RowMeaning::Var(of, Mode::Plain, _) => is_own_ordinal(scopes, around, entry.0.scope, of),
+        RowMeaning::Var(of, Mode::Plain, _) => {
+            if entry.0.scope != around.scope {
+                return Ask::Known(false);
+            }
+            Ask::Known(known!(range_of(scopes, around, of)).is_some())
+        }
         _ => Ask::Known(false),
     }
 }

@@ -27,7 +27,7 @@ ghost use Rattle.stmt_sem.specs.Walkers.{Codes, Keeps, frame_of, nodes_of};
 ghost use Rattle.stmt_sem.specs.declared.stands.Stand.{Stand as StandOf};
 
 use crate::assignments::store_code;
-use crate::flow_parts::{self, behind, celled};
+use crate::flow_parts::{self, for_made};
 use crate::flows::{Code, Flow, Turns};
 use crate::refusals::refused_step;
 use crate::stands::Stand;
@@ -241,7 +241,5 @@ pub fn emit_for<S: Scopes>(
     let last = analysed!(emit_last(scopes, site, x, count.last, fragments));
     let step = analysed!(emit_step(scopes, site, x, count.by, fragments));
     let turns = emit_turns(x, count.by, step, body, fragments)?;
-    let counted = celled(last, turns, fragments)?;
-    let start = Flow::straight(Code::Fixed(first), fragments)?;
-    flow_parts::answered(behind(start, counted, *fragments.nodes.allocator()))
+    flow_parts::answered(for_made(first, last, turns, fragments))
 }

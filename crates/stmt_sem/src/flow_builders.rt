@@ -135,10 +135,7 @@ impl Flow {
         requires turns { IsTurnsOver fragments.now.nodes.items turns }
         ensures { MadeBy fragments.now.nodes.items result (turns_in fragments.now.nodes.items turns) }
     {
-        let jump = jump_size();
-        let tests = sum(turns.first.size(fragments)?, turns.again.size(fragments)?)?;
-        let rest = sum(turns.body.size, fragments.size(turns.step))?;
-        let size = sum(sum(tests, rest)?, jump + jump + jump)?;
+        let size = turns.size(fragments)?;
         let turns = Box::new(*fragments.nodes.allocator(), turns)?;
         Ok(Flow {
             form: FlowForm::Counted(turns),

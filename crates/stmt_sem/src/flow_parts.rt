@@ -50,6 +50,26 @@ pub fn celled(code: Code, rest: Flow, fragments: &Fragments) -> Result<Flow, Mem
     Flow::with_cell(both, alloc)
 }
 
+/// The first value of a FOR to its variable, and then its turns, where the last value is in the cell.
+pub fn for_made(
+    first: Fragment,
+    last: Code,
+    turns: Flow,
+    fragments: &Fragments,
+) -> Result<Flow, Memory>
+    requires sound { AreSound fragments.now.nodes.items }
+    requires first { IsIn fragments.now.nodes.items first }
+    requires last { IsCodeOf fragments.now.nodes.items last }
+    requires turns { IsOver fragments.now.nodes.items turns }
+    ensures { let nodes = fragments.now.nodes.items in
+        MadeBy nodes result (λ t. spec_straight (part nodes first) ⨾ spec_with_cell (λ u.
+        spec_straight (code_by nodes last u) ⨾ flow_in nodes turns u)) }
+{
+    let counted = celled(last, turns, fragments)?;
+    let start = Flow::straight(Code::Fixed(first), fragments)?;
+    behind(start, counted, *fragments.nodes.allocator())
+}
+
 /// The arms and ELSE of a CASE whose selector has this value.
 pub fn case_made(
     value: Fragment,

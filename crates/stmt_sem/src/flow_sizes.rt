@@ -7,13 +7,13 @@ ghost use Rattle.code_form.specs.Bytes.{size};
 ghost use Rattle.code_form.specs.declared.instr.Instr.TheVariants.{Load, Local, Push};
 ghost use Rattle.expr_sem.specs.Fragments.{AreSound};
 ghost use Rattle.expr_sem.specs.declared.fragments.Node.{Node};
-ghost use Rattle.stmt_sem.specs.FlowTrees.{IsArmOver, IsCodeOf, IsOverIfAny, MeasuresPart};
-ghost use Rattle.stmt_sem.specs.FlowTrees.{code_by, other_among};
+ghost use Rattle.stmt_sem.specs.FlowTrees.{IsArmOver, IsCodeOf, IsOverIfAny, IsTurnsOver, Measures, MeasuresPart};
+ghost use Rattle.stmt_sem.specs.FlowTrees.{code_by, other_among, turns_in};
 ghost use Rattle.stmt_sem.specs.FlowPieces.{Over};
 ghost use Rattle.stmt_sem.specs.FlowSizes.{arm_bytes, arms_bytes, block_bytes, label_bytes};
 ghost use Rattle.stmt_sem.specs.Flows.{jump_size as spec_jump_size};
 
-use crate::flows::{Arm, Code, Flow};
+use crate::flows::{Arm, Code, Flow, Turns};
 use case_labels::LabelTest;
 use code_form::Instr;
 use expr_sem::{Fragments, Step};
@@ -102,6 +102,21 @@ pub fn block_size(flows: &[Flow]) -> Result<u64, Memory>
         total = sum(total, flow.size)?;
     }
     Ok(total)
+}
+
+impl Turns {
+    /// The length of a loop that counts.
+    pub fn size(&self, fragments: &Fragments) -> Result<u64, Memory>
+        requires sound { AreSound fragments.now.nodes.items }
+        requires there { IsTurnsOver fragments.now.nodes.items self.now }
+        ensures { IfOk result (λ n. Measures (turns_in fragments.now.nodes.items self.now) n) }
+    {
+        let jump = jump_size();
+        let tests = sum(self.first.size(fragments)?, self.again.size(fragments)?)?;
+        let rest = sum(self.body.size, fragments.size(self.step))?;
+        let all = sum(tests, rest)?;
+        sum(all, jump + jump + jump)
+    }
 }
 
 impl Arm {

@@ -7,7 +7,6 @@
 //! flows of statements where they stand (`specs/Walkers`). A `Body` is the code of a block in the making: it begins
 //! with what the body copies first, takes one statement after another, each as a whole or not at all, and ends
 //! (`specs/Bodies`); `procedure_code` is what the object file has of the whole.
-//! `state` makes the code of one statement alone (`specs/Stating`).
 #![tactic(auto)]
 
 /// The value of a question, or the end of the function where it isn't known yet.
@@ -76,4 +75,4 @@ pub use laws::{code_is_short, code_is_valid, heights_are_right, returns_agree};
 pub use procedure_codes::procedure_code;
 pub use stands::Stand;
 pub use statements::statement;
-pub use top_statements::{Beginning, Stated, state};
+pub use top_statements::Stated;

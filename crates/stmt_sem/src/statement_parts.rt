@@ -1,5 +1,4 @@
-//! Parts of code that statements have of their own: variables, tests, values of RETURN, selectors and the variables of
-//! WITHs.
+//! Parts of code that statements have of their own: variables, values of RETURN, selectors and the variables of WITHs.
 ghost use Rattle.std.specs.Prelude.{option_map};
 ghost use Rattle.m2_base.specs.Statics.ReadTrees.{IsReadDesignator, IsReadExpr};
 ghost use Rattle.m2_base.specs.Views.{designator_view, expr_view};
@@ -8,7 +7,7 @@ ghost use Rattle.expr_sem.specs.Fragments.{part};
 ghost use Rattle.m2_base.specs.Statics.ReadStatements.{IsReadExprOption};
 ghost use Rattle.stmt_sem.specs.Stands.{IsStand, names_of};
 ghost use Rattle.stmt_sem.specs.StatementParts.{record_of as spec_record, selector as spec_selector};
-ghost use Rattle.stmt_sem.specs.Statements.{return_of, test as spec_test, variable as spec_variable};
+ghost use Rattle.stmt_sem.specs.Statements.{return_of, variable as spec_variable};
 ghost use Rattle.stmt_sem.specs.Taken.{IsSelector, selector_in};
 ghost use Rattle.stmt_sem.specs.Walkers.{Codes, Keeps, frame_of};
 
@@ -31,19 +30,6 @@ impl<S: Scopes> Walker<'_, S> {
     {
         let x = analysed!(self.designated(stand, of));
         as_variable(stand.site, of.first.at, x, self.notes)
-    }
-
-    /// A test.
-    pub(crate) fn test(&mut self, stand: &Stand, e: &Expr) -> Result<Ask<Fragment>, Memory>
-        requires stand { IsStand (frame_of S.state self.old) stand.now }
-        requires e { IsReadExpr (names_of stand.now) (expr_view e.now) }
-        ensures keeps { Keeps self.old self.new }
-        ensures codes { Codes S.state self.old self.new stand.now result IsFragment part
-            (λ s. spec_test s (expr_view e.now)) }
-    {
-        let coded = analysed!(self.value_of(stand, e));
-        let x = Placed { at: e.at, coded };
-        self.test_code(stand, x)
     }
 
     /// RETURN with a value or without.

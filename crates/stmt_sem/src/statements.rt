@@ -7,24 +7,20 @@ ghost use Rattle.m2_base.specs.Views.{statement_view};
 ghost use Rattle.m2_base.specs.Statics.Operands.{is_bad as spec_bad};
 ghost use Rattle.m2_base.specs.Statics.ReadTrees.{IsReadDesignator, IsReadExpr};
 ghost use Rattle.expr_sem.specs.Codings.{IsCoded, coded_in};
-ghost use Rattle.expr_sem.specs.Fragments.{AreSound, part};
+ghost use Rattle.expr_sem.specs.Fragments.{AreSound};
 ghost use Rattle.type_rules.specs.Scenes.{IsThere};
 ghost use Rattle.stmt_sem.specs.FlowTrees.{flow_in};
 ghost use Rattle.stmt_sem.specs.Flowings.{Flowing, IsFlow};
 ghost use Rattle.m2_base.specs.Statics.ReadStatements.{AreReadCaseArms, AreReadIfArms, AreReadStatements};
-ghost use Rattle.m2_base.specs.Statics.ReadStatements.{IsReadCaseArm, IsReadCaseElse, IsReadExprOption, IsReadIfArm};
+ghost use Rattle.m2_base.specs.Statics.ReadStatements.{IsReadCaseArm, IsReadCaseElse, IsReadExprOption};
 ghost use Rattle.m2_base.specs.Statics.ReadStatements.{IsReadStatement};
 ghost use Rattle.stmt_sem.specs.Stands.{IsStand, names_of, stand_in};
-ghost use Rattle.stmt_sem.specs.Stated.{AreArms, AreFlows, IsArm, IsCase, IsOther, arm_in, arms_in, block_in, case_in};
-ghost use Rattle.stmt_sem.specs.Stated.{cases_in, other_in};
-ghost use Rattle.stmt_sem.specs.StatementParts.{case_of as spec_case, form_of, otherwise as spec_otherwise};
-ghost use Rattle.stmt_sem.specs.StatementParts.{statements_onto, with_body as spec_with};
-ghost use Rattle.stmt_sem.specs.Statements.{arm_flow, arms_flow, case_flow, cases_flow, else_flow, flow_of};
+ghost use Rattle.stmt_sem.specs.Stated.{AreArms, IsCase, IsOther, arms_in, case_in, cases_in, other_in};
+ghost use Rattle.stmt_sem.specs.StatementParts.{form_of, otherwise as spec_otherwise, with_body as spec_with};
+ghost use Rattle.stmt_sem.specs.Statements.{arms_flow, case_flow, cases_flow, else_flow, flow_of};
 ghost use Rattle.stmt_sem.specs.Statements.{statement_flow};
-ghost use Rattle.stmt_sem.specs.Taken.{IsSelector};
 ghost use Rattle.stmt_sem.specs.Walkers.{Keeps, Walks, frame_of, nodes_of};
 
-use crate::cases::Selected;
 use crate::counting::{Count, check_step, emit_for};
 use crate::flow_parts::{answered, case_made, opened, with_made};
 use crate::flows::{Arm, Code, Flow};
@@ -92,28 +88,6 @@ impl<S: Scopes> Walker<'_, S> {
         }
     }
 
-    /// Statements one after another, before they are put together.
-    #[cycle(statements)]
-    fn statements_made(
-        &mut self,
-        stand: &Stand,
-        body: &[Statement],
-    ) -> Result<Ask<Vec<Flow>>, Memory>
-        requires stand { IsStand (frame_of S.state self.old) stand.now }
-        requires sound { AreSound (nodes_of self.old) }
-        requires read { AreReadStatements (names_of stand.now) (spec_list (map statement_view body.now)) }
-        ensures keeps { Keeps self.old self.new }
-        ensures walks { Walks S.state self.old self.new stand.now result AreFlows block_in
-            (λ s. statements_onto s (λ rest. rest) (spec_list (map statement_view body.now))) }
-    {
-        let mut made = Vec::new(*self.fragments.nodes.allocator());
-        for of in body.iter() {
-            let flow = analysed!(self.statement(stand, of));
-            made.push(flow)?;
-        }
-        Ok(Ask::Known(made))
-    }
-
     /// Statements one after another, from the same stand: one flow of all of theirs, in text order. It waits where the
     /// first of them does, and what was added to the fragments and to the notes is of no use then.
     #[cycle(statements)]
@@ -129,7 +103,11 @@ impl<S: Scopes> Walker<'_, S> {
         ensures walks { Walks S.state self.old self.new stand.now result IsFlow flow_in
             (λ s. flow_of s (spec_list (map statement_view body.now))) }
     {
-        let made = analysed!(self.statements_made(stand, body));
+        let mut made = Vec::new(*self.fragments.nodes.allocator());
+        for of in body.iter() {
+            let flow = analysed!(self.statement(stand, of));
+            made.push(flow)?;
+        }
         answered(Flow::block(made))
     }
 
@@ -155,24 +133,6 @@ impl<S: Scopes> Walker<'_, S> {
         Ok(Ask::Known(Some(held)))
     }
 
-    /// One arm of an IF.
-    #[cycle(statements)]
-    fn if_arm(&mut self, stand: &Stand, arm: &IfArm) -> Result<Ask<Arm>, Memory>
-        requires stand { IsStand (frame_of S.state self.old) stand.now }
-        requires sound { AreSound (nodes_of self.old) }
-        requires read { IsReadIfArm (names_of stand.now) (if_arm_view arm.now) }
-        ensures keeps { Keeps self.old self.new }
-        ensures walks { Walks S.state self.old self.new stand.now result IsArm arm_in
-            (λ s. arm_flow s (if_arm_view arm.now)) }
-    {
-        let holds = analysed!(self.test(stand, &arm.test));
-        let body = analysed!(self.statements(stand, &arm.body));
-        Ok(Ask::Known(Arm {
-            test: Code::Fixed(holds),
-            body,
-        }))
-    }
-
     /// The arms of an IF.
     #[cycle(statements)]
     fn if_arms_made(&mut self, stand: &Stand, arms: &[IfArm]) -> Result<Ask<Vec<Arm>>, Memory>
@@ -185,8 +145,10 @@ impl<S: Scopes> Walker<'_, S> {
     {
         let mut made = Vec::new(*self.fragments.nodes.allocator());
         for arm in arms.iter() {
-            let one = analysed!(self.if_arm(stand, arm));
-            made.push(one)?;
+            let holds = analysed!(self.test(stand, &arm.test));
+            let body = analysed!(self.statements(stand, &arm.body));
+            let test = Code::Fixed(holds);
+            made.push(Arm { test, body })?;
         }
         Ok(Ask::Known(made))
     }
@@ -312,30 +274,6 @@ impl<S: Scopes> Walker<'_, S> {
         }
     }
 
-    /// The arms and ELSE of a CASE with this selector.
-    #[cycle(statements)]
-    fn case_of(
-        &mut self,
-        stand: &Stand,
-        x: Selected,
-        arms: &[CaseArm],
-        other: &Option<Vec<Statement>>,
-    ) -> Result<Ask<Flow>, Memory>
-        requires stand { IsStand (frame_of S.state self.old) stand.now }
-        requires sound { AreSound (nodes_of self.old) }
-        requires x { IsSelector (frame_of S.state self.old) (nodes_of self.old) x }
-        requires arms { AreReadCaseArms (names_of stand.now) (case_arms (map case_arm_view arms.now)) }
-        requires other { IsReadCaseElse (names_of stand.now) (case_else_seen other.now) }
-        ensures keeps { Keeps self.old self.new }
-        ensures walks { Walks S.state self.old self.new stand.now result IsFlow flow_in
-            (λ s. spec_case s (part (nodes_of self.old) x.value) x.of (case_arms (map case_arm_view arms.now))
-            (case_else_seen other.now)) }
-    {
-        let made = analysed!(self.case_arms_made(stand, x.of, arms));
-        let rest = analysed!(self.case_else(stand, other));
-        answered(case_made(x.value, made, rest, self.fragments))
-    }
-
     /// CASE.
     #[cycle(statements)]
     fn case_statement(
@@ -355,7 +293,9 @@ impl<S: Scopes> Walker<'_, S> {
             (case_form (expr_view value.now) (case_arms (map case_arm_view arms.now)) (case_else_seen other.now))) }
     {
         let x = analysed!(self.selector(stand, value));
-        self.case_of(stand, x, arms, other)
+        let made = analysed!(self.case_arms_made(stand, x.of, arms));
+        let rest = analysed!(self.case_else(stand, other));
+        answered(case_made(x.value, made, rest, self.fragments))
     }
 
     /// WHILE.
@@ -462,29 +402,6 @@ impl<S: Scopes> Walker<'_, S> {
         answered(with_made(x.code, inner, self.fragments))
     }
 
-    /// The statements in a WITH of this variable.
-    #[cycle(statements)]
-    fn with_body(
-        &mut self,
-        stand: &Stand,
-        x: Coded,
-        body: &[Statement],
-    ) -> Result<Ask<Flow>, Memory>
-        requires stand { IsStand (frame_of S.state self.old) stand.now }
-        requires sound { AreSound (nodes_of self.old) }
-        requires x { IsCoded (frame_of S.state self.old) (nodes_of self.old) x }
-        requires read { AreReadStatements (names_of stand.now) (spec_list (map statement_view body.now)) }
-        ensures keeps { Keeps self.old self.new }
-        ensures walks { Walks S.state self.old self.new stand.now result IsFlow flow_in
-            (λ s. spec_with s (coded_in (nodes_of self.old) x) (spec_list (map statement_view body.now))) }
-    {
-        if is_bad(x.operand) {
-            let inner = analysed!(self.statements(stand, body));
-            return answered(Flow::with_cell(inner, *self.fragments.nodes.allocator()));
-        }
-        self.in_record(stand, x, body)
-    }
-
     /// WITH.
     #[cycle(statements)]
     fn with_statement(
@@ -502,7 +419,11 @@ impl<S: Scopes> Walker<'_, S> {
             (λ s. form_of s (with_form (designator_view of.now) (spec_list (map statement_view body.now)))) }
     {
         let x = analysed!(self.record_of(stand, of));
-        self.with_body(stand, x, body)
+        if is_bad(x.operand) {
+            let inner = analysed!(self.statements(stand, body));
+            return answered(Flow::with_cell(inner, *self.fragments.nodes.allocator()));
+        }
+        self.in_record(stand, x, body)
     }
 }
 

@@ -2,23 +2,26 @@
 ghost use Rattle.std.specs.Prelude.{◌≡◌};
 ghost use Rattle.m2_base.specs.States.{Waits};
 ghost use Rattle.m2_base.specs.Statics.Operations.{is_boolean as spec_boolean};
+ghost use Rattle.m2_base.specs.Statics.ReadTrees.{IsReadExpr};
+ghost use Rattle.m2_base.specs.Views.{expr_view};
 ghost use Rattle.const_eval.specs.Sites.{IsOperand};
-ghost use Rattle.expr_sem.specs.Codings.{IsCoded, IsFragment, coded_in};
+ghost use Rattle.expr_sem.specs.Codings.{IsFragment};
 ghost use Rattle.expr_sem.specs.Fragments.{IsMade, part};
 ghost use Rattle.type_rules.specs.Asks.{Reads, WhereKnown, WhereWaiting};
 ghost use Rattle.type_rules.specs.Scenes.{WhereTold};
 ghost use Rattle.type_rules.specs.Sites.{SuitsSite, context_of};
-ghost use Rattle.stmt_sem.specs.Stands.{IsStand};
-ghost use Rattle.stmt_sem.specs.Tests.{false_code as spec_false, test_code as spec_test};
-ghost use Rattle.stmt_sem.specs.Walkers.{Codes, Keeps, frame_of, nodes_of};
+ghost use Rattle.stmt_sem.specs.Stands.{IsStand, names_of};
+ghost use Rattle.stmt_sem.specs.Statements.{test as spec_test};
+ghost use Rattle.stmt_sem.specs.Tests.{false_code as spec_false};
+ghost use Rattle.stmt_sem.specs.Walkers.{Codes, Keeps, frame_of};
 
 use crate::refusals::noted;
 use crate::stands::Stand;
 use crate::walker::Walker;
 use code_form::Instr;
 use const_eval::is_bad;
-use expr_sem::{Fragment, Fragments, Placed, answered, value_code};
-use m2_base::{Ask, Diagnostic, Memory, Operand, Scopes, Site};
+use expr_sem::{Fragment, Fragments, answered, value_code};
+use m2_base::{Ask, Diagnostic, Expr, Memory, Operand, Scopes, Site};
 use type_rules::{BOOLEAN, base_of, operand_type};
 
 /// FALSE.
@@ -45,21 +48,22 @@ fn is_boolean<S: Scopes>(scopes: &mut S, site: &Site, operand: Operand) -> Ask<b
 
 impl<S: Scopes> Walker<'_, S> {
     /// The code of a test. One that is no BOOLEAN is refused, and stands as FALSE, as does one in error.
-    pub(crate) fn test_code(&mut self, stand: &Stand, x: Placed) -> Result<Ask<Fragment>, Memory>
+    pub(crate) fn test(&mut self, stand: &Stand, e: &Expr) -> Result<Ask<Fragment>, Memory>
         requires stand { IsStand (frame_of S.state self.old) stand.now }
-        requires x { IsCoded (frame_of S.state self.old) (nodes_of self.old) x.coded }
+        requires e { IsReadExpr (names_of stand.now) (expr_view e.now) }
         ensures keeps { Keeps self.old self.new }
         ensures codes { Codes S.state self.old self.new stand.now result IsFragment part
-            (λ s. spec_test s.context x.at (coded_in (nodes_of self.old) x.coded)) }
+            (λ s. spec_test s (expr_view e.now)) }
     {
-        if is_bad(x.coded.operand) {
+        let x = analysed!(self.value_of(stand, e));
+        if is_bad(x.operand) {
             return answered(false_code(self.fragments));
         }
-        let boolean = asked!(is_boolean(self.scopes, stand.site, x.coded.operand));
+        let boolean = asked!(is_boolean(self.scopes, stand.site, x.operand));
         if boolean {
-            return value_code(self.scopes, stand.site, x.coded, self.fragments);
+            return value_code(self.scopes, stand.site, x, self.fragments);
         }
-        noted(stand.site, x.at, Diagnostic::NotBoolean, self.notes)?;
+        noted(stand.site, e.at, Diagnostic::NotBoolean, self.notes)?;
         answered(false_code(self.fragments))
     }
 }

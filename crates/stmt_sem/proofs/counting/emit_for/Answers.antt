@@ -107,50 +107,28 @@ returns-in_err-turns g c notes within stands =
     let third = rw c.in-Known-asked-2.is at c.in-Ok-emit_step.ensures notes in
     full_behind c.from_residual.result c.from_residual.ensures.0 (Works-trans first.works (Works-trans second.works third.works)) (Grows-trans first.grows (Grows-trans second.grows third.grows))
 
-pub celled-requires-clause-sound : goal.celled-requires-clause-sound
-celled-requires-clause-sound g c =
+pub for_made-requires-clause-sound : goal.for_made-requires-clause-sound
+for_made-requires-clause-sound g c =
     let none = no_notes c.args.fragments.now in
     let first = rw c.in-Known.is at c.in-Ok.ensures none in
     let second = rw c.in-Known-asked.is at c.in-Ok-emit_last.ensures none in
     let third = rw c.in-Known-asked-2.is at c.in-Ok-emit_step.ensures none in
     third.grows.sound (second.grows.sound (first.grows.sound c.requires.sound))
 
-pub celled-requires-clause-code : goal.celled-requires-clause-code
-celled-requires-clause-code g c =
+pub for_made-requires-clause-first : goal.for_made-requires-clause-first
+for_made-requires-clause-first g c =
+    let none = no_notes c.args.fragments.now in
+    let second = rw c.in-Known-asked.is at c.in-Ok-emit_last.ensures none in
+    let third = rw c.in-Known-asked-2.is at c.in-Ok-emit_step.ensures none in
+    in_later (Grows-trans second.grows third.grows) c.in-Known.value (rw c.in-Known.is at c.in-Ok.ensures none).there
+
+pub for_made-requires-clause-last : goal.for_made-requires-clause-last
+for_made-requires-clause-last g c =
     let none = no_notes c.args.fragments.now in
     code_there (rw c.in-Known-asked-2.is at c.in-Ok-emit_step.ensures none).grows c.in-Known-asked.value (rw c.in-Known-asked.is at c.in-Ok-emit_last.ensures none).there
 
-pub celled-requires-clause-rest : goal.celled-requires-clause-rest
-celled-requires-clause-rest g c = c.in_ok-turns.ensures.there
-
-pub returns-in_err-counted : goal.returns-in_err-counted
-returns-in_err-counted g c notes within stands =
-    let first = rw c.in-Known.is at c.in-Ok.ensures notes in
-    let second = rw c.in-Known-asked.is at c.in-Ok-emit_last.ensures notes in
-    let third = rw c.in-Known-asked-2.is at c.in-Ok-emit_step.ensures notes in
-    full_behind c.from_residual-in_err-counted.result c.from_residual-in_err-counted.ensures.0 (Works-trans first.works (Works-trans second.works third.works)) (Grows-trans first.grows (Grows-trans second.grows third.grows))
-
-pub straight-requires-clause-sound : goal.straight-requires-clause-sound
-straight-requires-clause-sound g c =
-    let none = no_notes c.args.fragments.now in
-    let first = rw c.in-Known.is at c.in-Ok.ensures none in
-    let second = rw c.in-Known-asked.is at c.in-Ok-emit_last.ensures none in
-    let third = rw c.in-Known-asked-2.is at c.in-Ok-emit_step.ensures none in
-    third.grows.sound (second.grows.sound (first.grows.sound c.requires.sound))
-
-pub straight-requires-clause-there : goal.straight-requires-clause-there
-straight-requires-clause-there g c =
-    let none = no_notes c.args.fragments.now in
-    let two = rw c.in-Known-asked.is at c.in-Ok-emit_last.ensures none in
-    let three = rw c.in-Known-asked-2.is at c.in-Ok-emit_step.ensures none in
-    in_later (Grows-trans two.grows three.grows) c.in-Known.value (rw c.in-Known.is at c.in-Ok.ensures none).there
-
-pub returns-in_err-start : goal.returns-in_err-start
-returns-in_err-start g c notes within stands =
-    let first = rw c.in-Known.is at c.in-Ok.ensures notes in
-    let second = rw c.in-Known-asked.is at c.in-Ok-emit_last.ensures notes in
-    let third = rw c.in-Known-asked-2.is at c.in-Ok-emit_step.ensures notes in
-    full_behind c.from_residual-in_err-start.result c.from_residual-in_err-start.ensures.0 (Works-trans first.works (Works-trans second.works third.works)) (Grows-trans first.grows (Grows-trans second.grows third.grows))
+pub for_made-requires-clause-turns : goal.for_made-requires-clause-turns
+for_made-requires-clause-turns g c = c.in_ok-turns.ensures.there
 
 pub returns : goal.returns
 returns g c notes within stands =
@@ -174,19 +152,15 @@ returns g c notes within stands =
     let grows = Grows-trans first.grows (Grows-trans second.grows third.grows) in
     let start = part n1 c.in-Known.value in
     let turned = c.in_ok-turns.ensures in
-    let counted = c.in_ok-counted.ensures in
-    let begun = c.in_ok-start.ensures in
-    let whole : MadeBy n3 c.behind.result (λ t. straight (part n3 c.in-Known.value) ⨾ with_cell (λ u. straight (code_by n3 c.in-Known-asked.value u) ⨾ turns u (coded_in n3 n.variable) n.by (part n3 c.in-Known-asked-2.value) (flow_in n3 c.args.body u))) =
-    made_as n3 c.behind.result (c.behind.ensures n3 begun.there counted.there)
-    (λ t. then_both (begun.flow_is t)
-    (counted.flow_is t
-    ∙ ap (λ (f : CellFlow). with_cell f) (fun_ext (λ u. ap (λ f. straight (code_by n3 c.in-Known-asked.value u) ⨾ f)
-    (turned.flow_is u ∙ ap (λ (v : ℤ). turns u (coded_in n3 n.variable) v (part n3 c.in-Known-asked-2.value) (flow_in n3 c.args.body u)) value))))) in
-    described_told c.answered.result (by_answer c.behind.result c.answered.result c.answered.ensures
+    let whole : MadeBy n3 c.for_made.result (λ t. straight (part n3 c.in-Known.value) ⨾ with_cell (λ u. straight (code_by n3 c.in-Known-asked.value u) ⨾ turns u (coded_in n3 n.variable) n.by (part n3 c.in-Known-asked-2.value) (flow_in n3 c.args.body u))) =
+    made_as n3 c.for_made.result c.for_made.ensures
+    (λ t. ap (λ (f : CellFlow). straight (part n3 c.in-Known.value) ⨾ with_cell f) (fun_ext (λ u. ap (λ f. straight (code_by n3 c.in-Known-asked.value u) ⨾ f)
+    (turned.flow_is u ∙ ap (λ (v : ℤ). turns u (coded_in n3 n.variable) v (part n3 c.in-Known-asked-2.value) (flow_in n3 c.args.body u)) value)))) in
+    described_told c.answered.result (by_answer c.for_made.result c.answered.result c.answered.ensures
     (flowing_after (λ k. gives (for_first k x (coded_in ns n.first)))
     (λ (p : Part) k. and_then (gives (λ t. for_last k t x last)) (λ (l : ℕ → Part). and_then (gives (for_step k.scene x n.by)) (λ (q : Part). gives (straight p ⨾ with_cell (λ t. straight (l t) ⨾ turns t x n.by q (flow_in ns c.args.body t))))))
-    (answer_of c.behind.result) one
-    (made_after_both (λ k. gives (λ t. for_last k t x last)) (λ l k. gives (for_step k.scene x n.by)) (λ (l : ℕ → Part) (q : Part). straight start ⨾ with_cell (λ t. straight (l t) ⨾ turns t x n.by q (flow_in ns c.args.body t))) c.behind.result two three whole
+    (answer_of c.for_made.result) one
+    (made_after_both (λ k. gives (λ t. for_last k t x last)) (λ l k. gives (for_step k.scene x n.by)) (λ (l : ℕ → Part) (q : Part). straight start ⨾ with_cell (λ t. straight (l t) ⨾ turns t x n.by q (flow_in ns c.args.body t))) c.for_made.result two three whole
     (λ u m eu em cell. then_both (ap straight (part_later (Grows-trans second.grows third.grows) c.in-Known.value first.there))
     (ap (λ (f : CellFlow). with_cell f) (fun_ext (λ t. then_both (ap straight (code_later third.grows c.in-Known-asked.value second.there t ∙ ap (λ (l : ℕ → Part). l t) (eu cell)))
     (ap (λ (v : code.Coded). turns t v n.by (part n3 c.in-Known-asked-2.value) (flow_in n3 c.args.body t)) (coded_later grows n.variable c.requires.variable)

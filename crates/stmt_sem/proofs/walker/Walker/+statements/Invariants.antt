@@ -19,17 +19,11 @@ use Rattle.stmt_sem.proofs.walker.Walker.+statements.Given as goal
 abbrev pub decreases-statement : goal.decreases-statement
 decreases-statement g l = 8 * size-Statement l.of.now
 
-abbrev pub decreases-statements_made : goal.decreases-statements_made
-decreases-statements_made g l = 8 * most size-Statement l.body.now + 1
-
 abbrev pub decreases-statements : goal.decreases-statements
 decreases-statements g l = 8 * most size-Statement l.body.now + 2
 
 abbrev pub decreases-otherwise : goal.decreases-otherwise
 decreases-otherwise g l = 8 * most size-Statement l.body.now + 3
-
-abbrev pub decreases-if_arm : goal.decreases-if_arm
-decreases-if_arm g l = 8 * size-IfArm l.arm.now
 
 abbrev pub decreases-if_arms_made : goal.decreases-if_arms_made
 decreases-if_arms_made g l = 8 * most size-IfArm l.arms.now + 1
@@ -49,9 +43,6 @@ decreases-case_arms_made g l = 8 * most size-CaseArm l.arms.now + 1
 abbrev pub decreases-case_else : goal.decreases-case_else
 decreases-case_else g l = 8 * rest_size l.other.now + 3
 
-abbrev pub decreases-case_of : goal.decreases-case_of
-decreases-case_of g l = 8 * greater (most size-CaseArm l.arms.now) (rest_size l.other.now) + 4
-
 abbrev pub decreases-case_statement : goal.decreases-case_statement
 decreases-case_statement g l = 8 * greater (most size-CaseArm l.arms.now) (rest_size l.other.now) + 5
 
@@ -67,15 +58,12 @@ decreases-for_statement g l = 8 * most size-Statement l.body.now + 3
 abbrev pub decreases-in_record : goal.decreases-in_record
 decreases-in_record g l = 8 * most size-Statement l.body.now + 3
 
-abbrev pub decreases-with_body : goal.decreases-with_body
-decreases-with_body g l = 8 * most size-Statement l.body.now + 4
-
 abbrev pub decreases-with_statement : goal.decreases-with_statement
 decreases-with_statement g l = 8 * most size-Statement l.body.now + 5
 
 -- what the items so far give
-abbrev pub invariant-statements_made-loop-of : goal.invariant-statements_made-loop-of
-invariant-statements_made-loop-of g l =
+abbrev pub invariant-statements-loop-of : goal.invariant-statements-loop-of
+invariant-statements-loop-of g l =
     Keeps l.fn.self l.self
     × Walks g.S.Scopes.state l.fn.self l.self l.stand (Ok (Known l.made)) AreFlows block_in
     (λ s. folded (step (λ k o i. statement_flow (stand_in k l.stand) (statement_view i)) behind_flow s.context) (λ rest. rest) (take l.of-index l.body))

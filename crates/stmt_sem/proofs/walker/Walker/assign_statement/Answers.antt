@@ -18,6 +18,7 @@ use Rattle.stmt_sem.specs.Statements.{variable}
 use Rattle.stmt_sem.proofs.Flowed.{by_answer, described, flowing_after, made_after, of_coding, sound_after, unknown, unknown_after, unmade, unmade_after}
 use Rattle.stmt_sem.proofs.FlowsBehind.{stand_on, unknown_behind, unmade_behind}
 use Rattle.m2_base.proofs.Kept.{Works-trans}
+use Rattle.stmt_sem.proofs.Walkers.{Keeps-trans}
 use Rattle.stmt_sem.proofs.walker.Walker.assign_statement.Goals as goal
 
 pub returns-in-DontKnowYet-clause-walks : goal.returns-in-DontKnowYet-clause-walks
@@ -91,3 +92,24 @@ returns-clause-walks g c =
     (flowing_after (λ k. variable (stand_in k s) d) (λ u k. and_then (value k ws (expr_view e)) (λ v. and_then (assignment k u at v) (λ p. gives (straight p)))) r one
     (flowing_after (λ k. value k ws (expr_view e)) (λ v k. and_then (assignment k to at v) (λ p. gives (straight p))) r two
     (made_after (λ k. assignment k to at x) (λ p. straight p) c.straight.result three c.straight.ensures (λ p same cell. ap straight (same cell)))))
+
+pub returns-in-DontKnowYet-clause-keeps : goal.returns-in-DontKnowYet-clause-keeps
+returns-in-DontKnowYet-clause-keeps g c = c.variable.ensures.keeps
+
+pub returns-in-Err-clause-keeps : goal.returns-in-Err-clause-keeps
+returns-in-Err-clause-keeps g c = c.variable.ensures.keeps
+
+pub returns-in-DontKnowYet-asked-clause-keeps : goal.returns-in-DontKnowYet-asked-clause-keeps
+returns-in-DontKnowYet-asked-clause-keeps g c = Keeps-trans c.variable.ensures.keeps c.value_of.ensures.keeps
+
+pub returns-in-Err-value_of-clause-keeps : goal.returns-in-Err-value_of-clause-keeps
+returns-in-Err-value_of-clause-keeps g c = Keeps-trans c.variable.ensures.keeps c.value_of.ensures.keeps
+
+pub returns-in-DontKnowYet-asked-2-clause-keeps : goal.returns-in-DontKnowYet-asked-2-clause-keeps
+returns-in-DontKnowYet-asked-2-clause-keeps g c = Keeps-trans (Keeps-trans c.variable.ensures.keeps c.value_of.ensures.keeps) c.assignment.ensures.keeps
+
+pub returns-in-Err-assignment-clause-keeps : goal.returns-in-Err-assignment-clause-keeps
+returns-in-Err-assignment-clause-keeps g c = Keeps-trans (Keeps-trans c.variable.ensures.keeps c.value_of.ensures.keeps) c.assignment.ensures.keeps
+
+pub returns-clause-keeps : goal.returns-clause-keeps
+returns-clause-keeps g c = Keeps-trans (Keeps-trans c.variable.ensures.keeps c.value_of.ensures.keeps) c.assignment.ensures.keeps

@@ -41,3 +41,12 @@ returns-clause-walks g c =
     (c.code_unless_bad-code.ensures.there ms (stands_after call).code) (λ k. c.code_unless_bad-code.ensures.told ms))) in
     by_answer c.straight.result c.answered.result c.answered.ensures
     (described _ (made_after (λ k. called (stand_in k s) d args) (λ p. straight p) c.straight.result one c.straight.ensures (λ p same cell. ap straight (same cell))) (λ k. call_given (stand_in k s) d args))
+
+pub returns-in-DontKnowYet-clause-keeps : goal.returns-in-DontKnowYet-clause-keeps
+returns-in-DontKnowYet-clause-keeps g c = c.call_alone.ensures.keeps
+
+pub returns-in-Err-clause-keeps : goal.returns-in-Err-clause-keeps
+returns-in-Err-clause-keeps g c = c.call_alone.ensures.keeps
+
+pub returns-clause-keeps : goal.returns-clause-keeps
+returns-clause-keeps g c = c.call_alone.ensures.keeps

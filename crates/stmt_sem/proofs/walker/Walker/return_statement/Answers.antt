@@ -24,3 +24,12 @@ returns-clause-walks g c =
     let one = of_coding _ (rw c.in-Known.is at c.in-Ok.ensures.codes) in
     by_answer c.straight.result c.answered.result c.answered.ensures
     (made_after (λ k. return_of (stand_in k s) c.args.at (option_map expr_view c.args.value.now)) (λ p. straight p) c.straight.result one c.straight.ensures (λ p same cell. ap straight (same cell)))
+
+pub returns-in-DontKnowYet-clause-keeps : goal.returns-in-DontKnowYet-clause-keeps
+returns-in-DontKnowYet-clause-keeps g c = c.returned.ensures.keeps
+
+pub returns-in-Err-clause-keeps : goal.returns-in-Err-clause-keeps
+returns-in-Err-clause-keeps g c = c.returned.ensures.keeps
+
+pub returns-clause-keeps : goal.returns-clause-keeps
+returns-clause-keeps g c = c.returned.ensures.keeps
