@@ -11,6 +11,7 @@ use Rattle.type_rules.specs.Sites.{context_of}
 use Rattle.expr_sem.specs.Coded.{characters}
 use Rattle.expr_sem.specs.Fragments.{IsMade, part}
 use Rattle.expr_sem.specs.Parts.{plain, text, ◌⨟◌}
+use Rattle.expr_sem.proofs.Following.{by_question, then_failed}
 use Rattle.expr_sem.proofs.Making.{made_told, question_full, question_waits}
 use Rattle.expr_sem.proofs.Sequencing.{in_later, joined_same, made_after, part_later}
 use Rattle.stmt_sem.specs.Assignments.{store_text}
@@ -47,3 +48,6 @@ returns g c notes =
     (λ made in_hand told. let k = context_of (g.S.Scopes.state c.args.scopes.now).frame made c.args.site.now in
     ap (λ (l : List ℕ). to ⨟ text l ⨟ plain (Move (min (length l + 1) c.in-Known.value) ∷ [])) (c.in_ok-bytes.ensures (source_of c.args.site.now.texts.now) refl)
     ∙ ap (λ (n : ℕ). to ⨟ text chars ⨟ plain (Move (min (length chars + 1) n) ∷ [])) (c.in-Known.ensures.told made in_hand told ∙ ap (λ (t : Place). size_of k.scene t) c.operand_type.ensures))
+
+pub returns-in_err-bytes : goal.returns-in_err-bytes
+returns-in_err-bytes g c notes = then_failed c.from_residual.result c.from_residual.ensures.0 (by_question notes _ c.in-Known.ensures.reads)

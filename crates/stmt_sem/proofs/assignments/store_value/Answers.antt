@@ -6,6 +6,7 @@ use Rattle.m2_base.specs.Statics.Operands.{operand_type}
 use Rattle.m2_base.specs.Statics.Types.{size_of}
 use Rattle.m2_base.specs.declared.rows.Place.{Place}
 use Rattle.code_form.specs.declared.instr.Instr.TheVariants.{Move, Store}
+use Rattle.const_eval.proofs.Later.{SuitsSite_read}
 use Rattle.const_eval.proofs.TypesThere.{type_there}
 use Rattle.type_rules.specs.Scenes.{IsThere}
 use Rattle.type_rules.specs.Sites.{context_of}
@@ -131,3 +132,12 @@ returns g c notes =
     (λ made in_hand told. let k = context_of (g.S.Scopes.state c.args.scopes.now).frame made c.args.site.now in
     ap (λ (b : Bool). gives (if b then (to ⨟ value_code k x ⨟ plain (Move (size_of k.scene of) ∷ [])) else (to ⨟ fitted_code k of x ⨟ plain (Store ∷ [])))) (sym c.if-not-structured.false ∙ c.in-Known.ensures.told made in_hand told)
     ∙ ap (λ (t : Place). gives (store_value k t to x)) c.operand_type-of.ensures)
+
+pub fitted_code-requires-clause-suits : goal.fitted_code-requires-clause-suits
+fitted_code-requires-clause-suits g c = SuitsSite_read c.in-Known.ensures.reads c.requires.suits
+
+pub cells_of-requires-clause-suits : goal.cells_of-requires-clause-suits
+cells_of-requires-clause-suits g c = (SuitsSite_read c.in-Known.ensures.reads c.requires.suits).around
+
+pub value_code-requires-clause-suits : goal.value_code-requires-clause-suits
+value_code-requires-clause-suits g c = SuitsSite_read c.in-Known-cells_of.ensures.reads (SuitsSite_read c.in-Known.ensures.reads c.requires.suits)

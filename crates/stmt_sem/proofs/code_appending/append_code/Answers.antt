@@ -4,7 +4,7 @@ use Rattle.code_form.specs.declared.instr.Instr.TheVariants.{Load, Local, Store}
 use Rattle.expr_sem.specs.Fragments.{part}
 use Rattle.expr_sem.specs.Parts.{plain, ◌⨟◌}
 use Rattle.expr_sem.specs.Pieces.{Appended}
-use Rattle.expr_sem.proofs.PieceParts.{then_on}
+use Rattle.expr_sem.proofs.PieceParts.{Begins-trans, then_on}
 use Rattle.stmt_sem.specs.FlowTrees.{code_by}
 use Rattle.stmt_sem.specs.declared.flows.Code.{Code}
 use Rattle.stmt_sem.proofs.code_appending.append_code.Goals as goal
@@ -35,3 +35,21 @@ returns-in_ok-push_instr-in-Compared-3-clause-ok c =
     (then_on r e (plain (Local 0 t ∷ Load ∷ i ∷ [])) (plain (Load ∷ Local 0 t ∷ Load ∷ i ∷ [])) (c.in_ok-push_instr-in-Compared.ensures.ok ws) refl
     (then_on r e (plain (Load ∷ i ∷ [])) (plain (Local 0 t ∷ Load ∷ i ∷ [])) (c.in_ok-push_instr-in-Compared-2.ensures.ok ws) refl
     (then_on r e (plain (i ∷ [])) (plain (Load ∷ i ∷ [])) (c.in_ok-push_instr-in-Compared-3.ensures.ok ws) refl (c.push_instr-in-Compared-4.ensures.ok ws)))))
+
+pub returns-in_err-append_all-in-Stored-clause-begins : goal.returns-in_err-append_all-in-Stored-clause-begins
+returns-in_err-append_all-in-Stored-clause-begins c = Begins-trans c.in_ok-push_instr-in-Stored.ensures.begins c.in_err-append_all-in-Stored.ensures.begins
+
+pub returns-in_ok-append_all-in-Stored-clause-begins : goal.returns-in_ok-append_all-in-Stored-clause-begins
+returns-in_ok-append_all-in-Stored-clause-begins c = Begins-trans (Begins-trans c.in_ok-push_instr-in-Stored.ensures.begins c.in_ok-append_all-in-Stored.ensures.begins) c.push_instr-in-Stored.ensures.begins
+
+pub returns-in_err-push_instr-in-Compared-clause-begins : goal.returns-in_err-push_instr-in-Compared-clause-begins
+returns-in_err-push_instr-in-Compared-clause-begins c = Begins-trans c.in_ok-append_all-in-Compared.ensures.begins c.in_err-push_instr-in-Compared.ensures.begins
+
+pub returns-in_err-push_instr-in-Compared-2-clause-begins : goal.returns-in_err-push_instr-in-Compared-2-clause-begins
+returns-in_err-push_instr-in-Compared-2-clause-begins c = Begins-trans (Begins-trans c.in_ok-append_all-in-Compared.ensures.begins c.in_ok-push_instr-in-Compared.ensures.begins) c.in_err-push_instr-in-Compared-2.ensures.begins
+
+pub returns-in_err-push_instr-in-Compared-3-clause-begins : goal.returns-in_err-push_instr-in-Compared-3-clause-begins
+returns-in_err-push_instr-in-Compared-3-clause-begins c = Begins-trans (Begins-trans (Begins-trans c.in_ok-append_all-in-Compared.ensures.begins c.in_ok-push_instr-in-Compared.ensures.begins) c.in_ok-push_instr-in-Compared-2.ensures.begins) c.in_err-push_instr-in-Compared-3.ensures.begins
+
+pub returns-in_ok-push_instr-in-Compared-3-clause-begins : goal.returns-in_ok-push_instr-in-Compared-3-clause-begins
+returns-in_ok-push_instr-in-Compared-3-clause-begins c = Begins-trans (Begins-trans (Begins-trans (Begins-trans c.in_ok-append_all-in-Compared.ensures.begins c.in_ok-push_instr-in-Compared.ensures.begins) c.in_ok-push_instr-in-Compared-2.ensures.begins) c.in_ok-push_instr-in-Compared-3.ensures.begins) c.push_instr-in-Compared-4.ensures.begins

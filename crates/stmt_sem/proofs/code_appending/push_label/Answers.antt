@@ -36,3 +36,6 @@ returns-in_ok-push_instr-in-Some-clause-ok c ws =
     (ap (λ (v : ℤ). (plain (Local 0 t ∷ Load ∷ Push v ∷ Ge ∷ []) ⨟ (plain (AndJump (pos 20) ∷ []) ⨟ high)) (spot_of c.args.piece.now ws)) (to_z-of_z w64 low f))
     (then_on r e high (plain (AndJump (pos 20) ∷ []) ⨟ high) (c.in_ok-push_instr-in-Some.ensures.ok ws) (ap (λ (i : ℤ). (plain (AndJump i ∷ []) ⨟ high) (spot_of c.push_bound-in-Some.new.piece ws)) distance)
     (subst (λ (v : ℤ). OnOk r (Appended c.push_instr.new.piece e ws (plain (Local 0 t ∷ Load ∷ Push v ∷ Le ∷ [])))) (to_z-of_z w64 c.in-Some.high g) (c.push_bound-in-Some-2.ensures.ok ws))))
+
+pub returns-in_err-push_instr-in-Some-clause-begins : goal.returns-in_err-push_instr-in-Some-clause-begins
+returns-in_err-push_instr-in-Some-clause-begins c = Begins-trans c.in_ok-push_bound-in-Some.ensures.begins c.in_err-push_instr-in-Some.ensures.begins

@@ -40,3 +40,15 @@ returns-clause-ok c ws =
     let whole : ends_as b ws none ≡ ends_as a ws more = sym (at_drop_all (λ (l : List LabelTest). ends_as b ws (more_labels_code t (map test_seen l))) rest c.loop-label.label-index c.loop-label-test.false) ∙ c.loop-label.invariant.same ws in
     subst (λ (ls : List LabelTest). Appended c.args.piece.now b ws (labels_code t (map test_seen ls))) (sym c.in-Some.ensures.cases.0)
     (append_then (c.in_ok-push_label.ensures.ok ws) (all_appended none more whole refl))
+
+pub returns-in_err-forward-clause-begins : goal.returns-in_err-forward-clause-begins
+returns-in_err-forward-clause-begins c = Begins-trans c.in_ok-push_label.ensures.begins c.loop-label.invariant.begins
+
+pub returns-in_err-push_instr-clause-begins : goal.returns-in_err-push_instr-clause-begins
+returns-in_err-push_instr-clause-begins c = Begins-trans (Begins-trans c.in_ok-push_label.ensures.begins c.loop-label.invariant.begins) c.in_err-push_instr.ensures.begins
+
+pub returns-in_err-push_label-2-clause-begins : goal.returns-in_err-push_label-2-clause-begins
+returns-in_err-push_label-2-clause-begins c = Begins-trans (Begins-trans (Begins-trans c.in_ok-push_label.ensures.begins c.loop-label.invariant.begins) c.in_ok-push_instr.ensures.begins) c.in_err-push_label-2.ensures.begins
+
+pub returns-clause-begins : goal.returns-clause-begins
+returns-clause-begins c = Begins-trans c.in_ok-push_label.ensures.begins c.loop-label.invariant.begins

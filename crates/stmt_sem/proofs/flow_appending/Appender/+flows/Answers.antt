@@ -391,3 +391,30 @@ append_arm-returns-clause-ok t c =
     (ap (λ (i : ℤ). (plain (JumpFalse i ∷ []) ⨟ rest) (spot_of c.append_code.new.piece ws)) (to_z-of_z w32 c.in_ok-forward-2.field-0 over ∙ c.in_ok-forward-2.ensures ∙ ap pos (c.in_ok-size.ensures ∙ ap (λ (i : ℕ). body.size + i) five)))
     (then_on r e last rest c.in_ok-append_inner.ensures.ok (ap (λ (i : ℕ). (part_at i f ⨟ last) (spot_of c.push_instr-2.new.piece ws)) c.in_ok-sum.ensures)
     (subst (λ (i : ℤ). OnOk r (Appended c.append_inner-2.new.piece e ws (plain (Jump i ∷ [])))) (to_z-of_z w32 c.in_ok-forward-3.field-0 past ∙ c.in_ok-forward-3.ensures ∙ ap pos (c.saturating_sub.ensures ∙ ap (λ (i : ℕ). left - i) five)) (c.push_instr-3.ensures.ok ws))))
+
+pub append_arm-returns-in_err-push_instr-clause-begins : goal.append_arm-returns-in_err-push_instr-clause-begins
+append_arm-returns-in_err-push_instr-clause-begins t c = Begins-trans c.in_ok-append_code.ensures.begins c.in_err-push_instr.ensures.begins
+
+pub append_arm-returns-then-left-eq0-clause-begins : goal.append_arm-returns-then-left-eq0-clause-begins
+append_arm-returns-then-left-eq0-clause-begins t c = Begins-trans (Begins-trans c.in_ok-append_code.ensures.begins c.in_ok-push_instr.ensures.begins) c.append_inner.ensures.begins
+
+pub append_arm-returns-in_err-push_instr-2-clause-begins : goal.append_arm-returns-in_err-push_instr-2-clause-begins
+append_arm-returns-in_err-push_instr-2-clause-begins t c = Begins-trans c.in_ok-append_code.ensures.begins c.in_err-push_instr-2.ensures.begins
+
+pub append_arm-returns-in_err-sum-clause-begins : goal.append_arm-returns-in_err-sum-clause-begins
+append_arm-returns-in_err-sum-clause-begins t c = Begins-trans c.in_ok-append_code.ensures.begins c.in_ok-push_instr-2.ensures.begins
+
+pub append_arm-returns-in_err-append_inner-clause-begins : goal.append_arm-returns-in_err-append_inner-clause-begins
+append_arm-returns-in_err-append_inner-clause-begins t c = Begins-trans (Begins-trans c.in_ok-append_code.ensures.begins c.in_ok-push_instr-2.ensures.begins) c.in_err-append_inner.ensures.begins
+
+pub append_arm-returns-in_err-forward-3-clause-begins : goal.append_arm-returns-in_err-forward-3-clause-begins
+append_arm-returns-in_err-forward-3-clause-begins t c = Begins-trans (Begins-trans c.in_ok-append_code.ensures.begins c.in_ok-push_instr-2.ensures.begins) c.in_ok-append_inner.ensures.begins
+
+pub append_arm-returns-clause-begins : goal.append_arm-returns-clause-begins
+append_arm-returns-clause-begins t c = Begins-trans (Begins-trans (Begins-trans c.in_ok-append_code.ensures.begins c.in_ok-push_instr-2.ensures.begins) c.in_ok-append_inner.ensures.begins) c.push_instr-3.ensures.begins
+
+pub append_form-returns-in-Some-clause-begins : goal.append_form-returns-in-Some-clause-begins
+append_form-returns-in-Some-clause-begins t c = Begins-trans c.in_ok-append_arms-in-Choice.ensures.begins c.append_inner.ensures.begins
+
+pub append_arms-size-requires-clause-there : goal.append_arms-size-requires-clause-there
+append_arms-size-requires-clause-there t c = each_at (IsArmOver c.args.self.now.fragments.now.nodes.items) c.args.arms.now c.loop-arm.arm-index c.arm-item.result c.loop-arm-test.true c.arm-item.is c.requires.arms
