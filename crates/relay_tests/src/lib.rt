@@ -4,7 +4,6 @@
 //! and may have to wait for another one first. The tests run such jobs with 1, 2, 8 and 64 workers (`of_relay`).
 #![tactic(auto)]
 
-#[cfg(test)]
 mod countdown;
 #[cfg(test)]
 mod of_relay;
