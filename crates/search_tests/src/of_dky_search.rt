@@ -1,5 +1,5 @@
 //! Replies before a row is shown, after it is, and when its scope is complete, by hand; and how many rows are loaded.
-ghost use Rattle.std.specs.Prelude.{◌≢◌, ◌^◌, ◌<◌, ◌≤◌};
+ghost use Rattle.std.specs.Prelude.{◌≡◌, ◌≢◌, ◌^◌, ◌<◌, ◌≤◌};
 
 use crate::filling::{FIRST, Filler, row_of};
 use crate::opening::{Opened, open, unit_with};
@@ -38,7 +38,9 @@ fn head(count: u32) -> Head {
 }
 
 /// The place of the row of scope 1 that has so many before it.
-pub(crate) fn place(ordinal: u32) -> Place {
+pub(crate) fn place(ordinal: u32) -> Place
+    ensures { result.scope ≡ 1 }
+{
     Place { scope: 1, ordinal }
 }
 
