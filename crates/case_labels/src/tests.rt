@@ -4,7 +4,7 @@ ghost use Rattle.case_labels.specs.Labels.{test_of as spec_test};
 ghost use Rattle.case_labels.specs.Seen.{test_seen};
 
 /// The values of a label: one, or those from the low one to the high one.
-#[derive(Clone, Copy, Debug, PartialEq, Eq)]
+#[derive(Clone, Copy)]
 pub struct LabelTest {
     pub low: i64,
     pub high: Option<i64>,

@@ -1,7 +1,7 @@
 //! What instructions do to the stack's height.
 
 /// What an instruction does to the number of operands on the stack.
-#[derive(Clone, Copy, Debug, PartialEq, Eq)]
+#[derive(Clone, Copy)]
 pub enum Effect {
     /// It takes some and leaves some.
     Changes(u64, u64),

@@ -8,7 +8,7 @@ use crate::operand::{Operand, operand};
 use crate::table::instructions;
 
 /// An instruction with its operands.
-#[derive(Clone, Copy, Debug, PartialEq, Eq)]
+#[derive(Clone, Copy)]
 pub enum Instr {
     Push(i64),
     Local(u32, u32),

@@ -12,7 +12,7 @@ use m2_base::Memory;
 use std::alloc::Global;
 
 /// What can be asked for.
-#[derive(Clone, Copy, Debug, Drop)]
+#[derive(Clone, Copy, Drop)]
 pub enum Command<'a> {
     /// To compile the module of that name, by so many workers.
     Compile {

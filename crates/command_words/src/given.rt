@@ -17,7 +17,7 @@ use m2_base::Memory;
 use std::alloc::Global;
 
 /// What the verb is about, and values of options.
-#[derive(Clone, Copy, Debug, Drop)]
+#[derive(Clone, Copy, Drop)]
 pub struct Given<'a> {
     pub operand: Option<&'a str>,
     pub workers: Option<u32>,

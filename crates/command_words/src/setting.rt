@@ -5,7 +5,7 @@ ghost use Rattle.command_words.specs.Settings.{most as spec_most, value_in as sp
 use crate::numeral::value_to;
 
 /// An option.
-#[derive(Clone, Copy, Debug, PartialEq, Eq)]
+#[derive(Clone, Copy)]
 pub enum Setting {
     /// How many workers compile.
     Workers,

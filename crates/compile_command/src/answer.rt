@@ -17,7 +17,7 @@ pub enum Answer {
 }
 
 /// Why the work was given up.
-#[derive(Clone, Copy, Debug, PartialEq, Eq, Error)]
+#[derive(Clone, Copy, Debug, Error)]
 pub enum Stop {
     #[error("reading failed")]
     Read,

@@ -4,7 +4,7 @@ ghost use Rattle.compile_command.specs.Lines.{line};
 ghost use Rattle.compile_command.specs.Limits.{limit_text};
 
 /// A quantity that has a limit.
-#[derive(Clone, Copy, Debug, PartialEq, Eq)]
+#[derive(Clone, Copy)]
 pub(crate) enum Limit {
     /// Of one text.
     TextBytes,

@@ -2,7 +2,7 @@
 use m2_base::Diagnostic;
 
 /// What is wrong, and the token where it is noted.
-#[derive(Clone, Copy, Debug, PartialEq, Eq)]
+#[derive(Clone, Copy)]
 pub struct Fault {
     pub at: u32,
     pub kind: Diagnostic,

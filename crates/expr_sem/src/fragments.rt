@@ -31,7 +31,7 @@ impl Connective {
 }
 
 /// A fragment among those made so far, by the number of its node; or no code at all.
-#[derive(Clone, Copy, Debug, PartialEq, Eq)]
+#[derive(Clone, Copy)]
 pub enum Fragment {
     Nothing,
     Node(u32),

@@ -3,7 +3,7 @@ ghost use Rattle.std.specs.Prelude.{◌≡◌};
 ghost use Rattle.m2_base.specs.Statics.Builtins.{builtin_of};
 
 /// A standard procedure, in the order of the numbers of their names, which are 10 to 26.
-#[derive(Clone, Copy, Debug, PartialEq, Eq)]
+#[derive(Clone, Copy)]
 pub enum Builtin {
     Abs,
     Cap,

@@ -5,7 +5,7 @@ ghost use Rattle.m2_base.specs.Diagnostics.{code_of, diagnostic_of, text_of};
 use std::fmt;
 
 /// A diagnostic. Its number is its code in a listing: `diagnostic as u8`.
-#[derive(Clone, Copy, Debug, PartialEq, Eq)]
+#[derive(Clone, Copy)]
 pub enum Diagnostic {
     CharacterNotAllowed = 10,
     CommentNotClosed = 11,

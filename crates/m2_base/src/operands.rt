@@ -2,7 +2,7 @@
 use crate::rows::Place;
 
 /// An operand. A type is the place of its row.
-#[derive(Clone, Copy, Debug, PartialEq, Eq)]
+#[derive(Clone, Copy)]
 pub enum Operand {
     /// A constant of a type, with its value.
     Constant(Place, i64),
@@ -27,7 +27,7 @@ pub enum Operand {
 }
 
 /// The kinds of operands that a constant's operator can have.
-#[derive(Clone, Copy, Debug, PartialEq, Eq)]
+#[derive(Clone, Copy)]
 pub enum FoldKind {
     Integer,
     Cardinal,

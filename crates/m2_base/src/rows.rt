@@ -29,7 +29,7 @@ pub struct Place {
 }
 
 /// How a variable's cell holds it: itself, its address, or the address and the length of an open array.
-#[derive(Clone, Copy, Debug, PartialEq, Eq)]
+#[derive(Clone, Copy)]
 pub enum Mode {
     Plain,
     ByAddress,
@@ -37,7 +37,7 @@ pub enum Mode {
 }
 
 /// What a row says, apart from its name and token. A type is the place of its row.
-#[derive(Clone, Copy, Debug, PartialEq, Eq)]
+#[derive(Clone, Copy)]
 pub enum RowMeaning {
     /// Its type, its value (of a string its name number), and the length of a string.
     Const(Place, i64, u32),
@@ -88,7 +88,7 @@ pub enum RowMeaning {
 }
 
 /// What the index of a scope finds a row by.
-#[derive(Clone, Copy, Debug, PartialEq, Eq, Hash)]
+#[derive(Clone, Copy, PartialEq, Eq, Hash)]
 pub enum RowKey {
     /// Its name.
     Name(u32),

@@ -29,7 +29,7 @@ pub struct Around {
 }
 
 /// A name that a block declares, with the ordinal, the kind and the token of its row, and the number of its item.
-#[derive(Clone, Copy, Debug, PartialEq, Eq)]
+#[derive(Clone, Copy)]
 pub struct Named {
     pub name: u32,
     pub ordinal: u32,

@@ -2,7 +2,7 @@
 use crate::kind::TokenKind;
 
 /// A token of a text, with the place of its first byte.
-#[derive(Clone, Copy, Debug, PartialEq, Eq)]
+#[derive(Clone, Copy)]
 pub struct Token {
     pub kind: TokenKind,
     /// What the token's kind says of it; 0 where that is nothing.

@@ -16,14 +16,14 @@ pub use statements::{CaseArm, IfArm, Statement, StmtForm};
 pub use types::{FieldList, Formal, TypeExpr, TypeForm, VariantArm};
 
 /// A name and the token that it is.
-#[derive(Clone, Copy, Debug, PartialEq, Eq)]
+#[derive(Clone, Copy)]
 pub struct Ident {
     pub name: u32,
     pub at: u32,
 }
 
 /// A name, or a name of a module and a name of that module.
-#[derive(Clone, Copy, Debug, PartialEq, Eq)]
+#[derive(Clone, Copy)]
 pub struct Qual {
     pub first: Ident,
     pub second: Option<Ident>,

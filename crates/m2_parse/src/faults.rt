@@ -6,14 +6,14 @@ use m2_base::StreamFault;
 use std::alloc::{AllocError, AllocFailed};
 
 /// Why a stream has no tree.
-#[derive(Clone, Copy, Debug, PartialEq, Eq)]
+#[derive(Clone, Copy)]
 pub enum ParseFault {
     Fault(StreamFault),
     Memory,
 }
 
 /// The token that is refused, and why.
-#[derive(Clone, Copy, Debug, PartialEq, Eq)]
+#[derive(Clone, Copy)]
 pub enum Refusal {
     /// No sentence goes on with it; a fault of the text has a code of its own.
     Syntax { at: u32, code: u8 },
@@ -22,7 +22,7 @@ pub enum Refusal {
 }
 
 /// Why a part could not be read.
-#[derive(Clone, Copy, Debug, PartialEq, Eq)]
+#[derive(Clone, Copy)]
 pub enum ReadFault {
     Memory,
     Refused(Refusal),

@@ -2,7 +2,7 @@
 use m2_base::Ident;
 
 /// The front of a text.
-#[derive(Debug, Drop, PartialEq)]
+#[derive(Drop)]
 pub struct Front {
     /// The module's name, unless a token before it is refused.
     pub name: Option<Ident>,

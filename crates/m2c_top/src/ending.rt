@@ -8,7 +8,7 @@ use compile_command as compiling;
 use object_commands as objects;
 
 /// Why the work was given up.
-#[derive(Clone, Copy, Debug, PartialEq, Eq)]
+#[derive(Clone, Copy)]
 pub enum Stop {
     Read,
     Write,

@@ -18,7 +18,7 @@ pub enum Answer {
 }
 
 /// Why a command was given up.
-#[derive(Clone, Copy, Debug, PartialEq, Eq, Error)]
+#[derive(Clone, Copy, Debug, Error)]
 pub enum Stop {
     #[error("reading failed")]
     Read,

@@ -15,7 +15,7 @@ use stack_machine::{End, Machine, StartFault};
 use std::alloc::Global;
 
 /// Which module is run, in how many steps at most, and with how many cells.
-#[derive(Clone, Copy, Debug, Drop)]
+#[derive(Clone, Copy, Drop)]
 pub struct Settings<'a> {
     pub name: &'a str,
     pub steps: u64,

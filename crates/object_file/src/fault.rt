@@ -9,7 +9,7 @@ use std::alloc::{AllocError, AllocFailed};
 use thiserror::Error;
 
 /// Why bytes aren't read as an object.
-#[derive(Clone, Copy, Debug, PartialEq, Eq, Error)]
+#[derive(Clone, Copy, Debug, Error)]
 pub enum ObjectFault {
     /// They are none: the place where that shows first, and what is wrong there. 1: the bytes end within a field.
     /// 2: bytes follow. 3: the file's first bytes or its version. 4: a field isn't valid. 5: no instruction. 6: an
@@ -40,7 +40,7 @@ impl From<AllocFailed<Object>> for ProgramFault {
 }
 
 /// Why reading stopped.
-#[derive(Debug, Drop)]
+#[derive(Drop)]
 pub(crate) enum Stop {
     Memory,
     /// How many bytes are left where something is wrong, and the code that is told.
@@ -64,7 +64,7 @@ impl<T: Drop> From<AllocFailed<T>> for Stop {
 }
 
 /// Why a procedure's code isn't valid, or isn't known to be.
-#[derive(Debug, Drop)]
+#[derive(Drop)]
 pub(crate) enum CodeFault {
     Memory,
     /// The place in the code, and the code that is told.

@@ -16,7 +16,7 @@ use code_form::Instr;
 use m2_base::ProcCode;
 
 /// The first places where something is, as far as the walk has come.
-#[derive(Clone, Copy, Debug)]
+#[derive(Clone, Copy)]
 pub(crate) struct Findings {
     /// Where operands name what isn't there, or the code ends without an end.
     pub(crate) wrong: Option<usize>,

@@ -14,7 +14,7 @@ use crate::walk::{behind, point_at};
 use m2_base::ProcCode;
 
 /// The places of the first jumps that are wrong.
-#[derive(Clone, Copy, Debug)]
+#[derive(Clone, Copy)]
 pub(crate) struct JumpFaults {
     /// That of the first jump which goes to no instruction.
     pub(crate) nowhere: Option<usize>,

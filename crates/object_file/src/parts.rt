@@ -2,7 +2,7 @@
 use m2_base::ProcCode;
 
 /// An imported definition as it was when the module was compiled.
-#[derive(Debug, Drop)]
+#[derive(Drop)]
 pub struct ImportNote {
     pub name: Vec<u8>,
     /// The key of its text, which tells whether it was this very definition; empty in version 1.

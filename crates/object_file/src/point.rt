@@ -16,7 +16,7 @@ pub(crate) struct Place {
 }
 
 /// An instruction at its place.
-#[derive(Debug, Drop)]
+#[derive(Drop)]
 pub(crate) struct Point {
     pub(crate) at: usize,
     /// The place behind it.

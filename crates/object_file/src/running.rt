@@ -12,7 +12,7 @@ use crate::parts::ImportNote;
 use std::alloc::{AllocError, Global};
 
 /// An object on the way, and which of its imports is followed next.
-#[derive(Clone, Copy, Debug, PartialEq, Eq)]
+#[derive(Clone, Copy)]
 pub(crate) struct Frame {
     pub(crate) object: usize,
     pub(crate) next: usize,

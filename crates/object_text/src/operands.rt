@@ -6,7 +6,7 @@ ghost use Rattle.object_text.specs.Text.{operands_of};
 use code_form::Instr;
 
 /// The operands of an instruction, of which there are three at most.
-#[derive(Clone, Copy, Debug, PartialEq, Eq)]
+#[derive(Clone, Copy)]
 pub(crate) enum Numbers {
     None,
     One(i64),

@@ -26,7 +26,7 @@ pub trait Job: Drop {
 }
 
 /// What became of a job in a turn.
-#[derive(Clone, Copy, Debug, PartialEq, Eq)]
+#[derive(Clone, Copy)]
 pub enum Turned {
     /// It got on.
     Further,

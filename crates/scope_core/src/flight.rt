@@ -13,7 +13,7 @@ use m2_base::{Head, Place, Reply, Row};
 use std::marker::Model;
 
 /// A head that was loaded, and the first row of the name among those that it counts, with its place.
-#[derive(Clone, Copy, Debug, PartialEq, Eq)]
+#[derive(Clone, Copy)]
 pub struct Load {
     pub head: Head,
     pub hit: Option<(Place, Row)>,

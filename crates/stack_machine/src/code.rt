@@ -3,7 +3,7 @@
 use crate::op::{Op, Service};
 
 /// A procedure of the program.
-#[derive(Clone, Copy, Debug, PartialEq, Eq)]
+#[derive(Clone, Copy)]
 pub struct Routine {
     /// The place of its first operation.
     pub entry: usize,
@@ -20,7 +20,7 @@ pub struct Routine {
 }
 
 /// Where an operation comes from: the object in running order, its procedure, and the byte in the procedure's code.
-#[derive(Clone, Copy, Debug, PartialEq, Eq)]
+#[derive(Clone, Copy)]
 pub struct Origin {
     pub module: u32,
     pub procedure: u32,
@@ -28,14 +28,14 @@ pub struct Origin {
 }
 
 /// What a call through a variable reaches.
-#[derive(Clone, Copy, Debug, PartialEq, Eq)]
+#[derive(Clone, Copy)]
 pub enum Callee {
     Routine(usize),
     Service(Service),
 }
 
 /// The code of a program.
-#[derive(Debug, Drop)]
+#[derive(Drop)]
 pub struct Code {
     pub ops: Vec<Op>,
     /// Where each operation comes from.

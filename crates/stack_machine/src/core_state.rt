@@ -1,7 +1,7 @@
 //! The state of a machine.
 
 /// Where a caller goes on, and its frame.
-#[derive(Clone, Copy, Debug, PartialEq, Eq)]
+#[derive(Clone, Copy)]
 pub struct Frame {
     pub at: usize,
     pub base: usize,

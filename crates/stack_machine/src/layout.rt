@@ -11,7 +11,7 @@ use object_file::{ImportNote, Object};
 use std::alloc::{AllocError, Global};
 
 /// Where the cells of a program are.
-#[derive(Clone, Copy, Debug, PartialEq, Eq)]
+#[derive(Clone, Copy)]
 pub(crate) struct Layout {
     pub(crate) has_in_out: bool,
     /// The first variable.

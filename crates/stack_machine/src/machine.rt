@@ -21,7 +21,7 @@ use std::marker::Model;
 use thiserror::Error;
 
 /// Why there is no machine.
-#[derive(Clone, Copy, Debug, PartialEq, Eq, Error)]
+#[derive(Clone, Copy, Debug, Error)]
 pub enum StartFault {
     /// The program's variables and data need more cells.
     #[error("too few cells")]

@@ -3,7 +3,7 @@
 use crate::trap::Trap;
 
 /// What a step comes to.
-#[derive(Clone, Copy, Debug, PartialEq, Eq)]
+#[derive(Clone, Copy)]
 pub(crate) enum Next {
     Goes,
     Halts,

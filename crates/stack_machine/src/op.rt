@@ -3,14 +3,14 @@
 use crate::trap::Trap;
 
 /// The type of a result.
-#[derive(Clone, Copy, Debug, PartialEq, Eq)]
+#[derive(Clone, Copy)]
 pub enum Kind {
     Integer,
     Cardinal,
 }
 
 /// A procedure of InOut.
-#[derive(Clone, Copy, Debug, PartialEq, Eq)]
+#[derive(Clone, Copy)]
 pub enum Service {
     Read,
     ReadInt,
@@ -23,7 +23,7 @@ pub enum Service {
 }
 
 /// An operation. A place is the number of an operation.
-#[derive(Clone, Copy, Debug, PartialEq, Eq)]
+#[derive(Clone, Copy)]
 pub enum Op {
     /// A value, or an address.
     Push(i64),

@@ -8,7 +8,7 @@ use object_file::{ImportNote, Object};
 use std::alloc::{AllocError, Global};
 
 /// Who has what an import names.
-#[derive(Clone, Copy, Debug, PartialEq, Eq)]
+#[derive(Clone, Copy)]
 pub(crate) enum Owner {
     InOut,
     /// The object with this number in running order.

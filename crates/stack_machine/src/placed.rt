@@ -5,7 +5,7 @@ ghost use Rattle.code_form.specs.Bytes.{size};
 use code_form::Instr;
 
 /// An instruction, its place in the code, and the place behind it.
-#[derive(Debug, Drop)]
+#[derive(Drop)]
 pub(crate) struct Placed {
     pub(crate) at: usize,
     pub(crate) end: usize,

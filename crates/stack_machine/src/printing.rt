@@ -32,7 +32,7 @@ fn write_byte<P: Sink>(print: &mut P, byte: u8) -> Result<(), SinkError>
 }
 
 /// What a cell of a text has.
-#[derive(Clone, Copy, Debug, PartialEq, Eq)]
+#[derive(Clone, Copy)]
 pub(crate) enum Char {
     /// There is no such cell.
     Missing,

@@ -17,7 +17,7 @@ use m2_io::{Sink, Source, SourceError};
 const MOST_BYTES: u32 = 65536;
 
 /// What reading gives: a value, if there is one, and the byte that was taken behind it.
-#[derive(Clone, Copy, Debug, PartialEq, Eq)]
+#[derive(Clone, Copy)]
 pub(crate) struct Reading {
     pub(crate) value: Option<i64>,
     pub(crate) kept: Option<u8>,
@@ -41,7 +41,7 @@ fn next_byte<K: Source>(keys: &mut K) -> Result<Option<u8>, SourceError>
 }
 
 /// The byte that comes next, and how many more may be taken.
-#[derive(Clone, Copy, Debug, PartialEq, Eq)]
+#[derive(Clone, Copy)]
 pub(crate) struct Ahead {
     pub(crate) byte: Option<u8>,
     pub(crate) more: u32,

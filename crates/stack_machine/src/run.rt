@@ -46,14 +46,14 @@ pub enum End {
 }
 
 /// What failed.
-#[derive(Clone, Copy, Debug, PartialEq, Eq)]
+#[derive(Clone, Copy)]
 pub(crate) enum Failure {
     Read,
     Write,
 }
 
 /// A procedure of InOut that an operation calls, and how many operands it takes.
-#[derive(Clone, Copy, Debug, PartialEq, Eq)]
+#[derive(Clone, Copy)]
 pub(crate) struct Asked {
     pub(crate) service: Service,
     pub(crate) operands: usize,

@@ -18,7 +18,7 @@ use m2_base::{DEEPEST_LEVEL, MOST_PROCEDURES, StreamKind, Token, TokenKind};
 use std::alloc::{AllocError, Global};
 
 /// What encloses a token in its own stream.
-#[derive(Clone, Copy, Debug, PartialEq, Eq)]
+#[derive(Clone, Copy)]
 pub enum Mode {
     /// The module's block, in which nothing is counted.
     Free,
@@ -27,14 +27,14 @@ pub enum Mode {
 }
 
 /// A stream round the current one, by its index, and what encloses its next token.
-#[derive(Clone, Copy, Debug, PartialEq, Eq)]
+#[derive(Clone, Copy)]
 pub struct Frame {
     pub stream: usize,
     pub mode: Mode,
 }
 
 /// How far the current stream is.
-#[derive(Clone, Copy, Debug, PartialEq, Eq)]
+#[derive(Clone, Copy)]
 pub enum Phase {
     Amid,
     /// Behind this PROCEDURE.
@@ -48,7 +48,7 @@ pub enum Phase {
 }
 
 /// The cut so far. Streams are meant by their index; the first has the number `first`.
-#[derive(Debug, Drop)]
+#[derive(Drop)]
 pub struct Cutter {
     first: u32,
     current: usize,

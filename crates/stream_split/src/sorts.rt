@@ -5,7 +5,7 @@ ghost use Rattle.stream_split.specs.Cut.{sort};
 use m2_base::TokenKind;
 
 /// What a token is to the cut.
-#[derive(Clone, Copy, Debug, PartialEq, Eq)]
+#[derive(Clone, Copy)]
 pub enum Sort {
     /// The end of the text.
     Stop,

@@ -6,7 +6,7 @@ use m2_base::{StreamKind, Token};
 use std::alloc::{AllocError, AllocFailed};
 
 /// The tokens of one block.
-#[derive(Debug, Drop)]
+#[derive(Drop)]
 pub struct StreamTokens {
     /// The number of the stream, which is that of its block's scope; the first has 1.
     pub stream: u32,
@@ -21,7 +21,7 @@ pub struct StreamTokens {
 }
 
 /// Why a unit isn't cut.
-#[derive(Clone, Copy, Debug, PartialEq, Eq)]
+#[derive(Clone, Copy)]
 pub enum SplitFault {
     /// The main text has more than 16,384 procedures.
     TooManyStreams,

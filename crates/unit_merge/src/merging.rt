@@ -13,7 +13,7 @@ use object_file::Object;
 use std::alloc::Global;
 
 /// What the outputs of a unit's streams come to.
-#[derive(Debug, Drop)]
+#[derive(Drop)]
 pub enum Merged {
     /// The object of the unit, of version 2.
     Code(Object),

@@ -5,7 +5,7 @@ use crate::trees::types::TypeExpr;
 use crate::trees::{Ident, Qual};
 
 /// What a stream of tokens is: the main text without its procedures, a definition text, or one procedure.
-#[derive(Clone, Copy, Debug, PartialEq, Eq)]
+#[derive(Clone, Copy)]
 pub enum StreamKind {
     Main,
     Definition,

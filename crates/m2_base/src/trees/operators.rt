@@ -5,7 +5,7 @@ ghost use Rattle.m2_base.specs.Operators.{operator_of as spec_operator_of, opera
 use crate::kind::TokenKind;
 
 /// An operator of an expression.
-#[derive(Clone, Copy, Debug, PartialEq, Eq)]
+#[derive(Clone, Copy)]
 pub enum Operator {
     Equal,
     Unequal,

@@ -35,7 +35,7 @@ pub enum TypeForm {
 }
 
 /// A parameter of a procedure type: its mode, whether it is an open array, and its type.
-#[derive(Clone, Copy, Debug, PartialEq, Eq)]
+#[derive(Clone, Copy)]
 pub struct Formal {
     pub by_ref: bool,
     pub is_open: bool,
