@@ -155,7 +155,8 @@ class Run:
         longest = max((self.chain[it] for it in self.names if it not in self.proved), default=0)
         ready = self.ready()
         for waiting, name in zip(range(len(ready), 0, -1), ready):
-            idle = self.processors - sum(it.jobs for it in self.checks)
+            # (a check counts as one processor: its jobs beyond the first are busy but half of the time)
+            idle = self.processors - len(self.checks)
             room = self.memory - sum(it.needs() for it in self.checks)
             if self.checks and (room < CHECK or self.alone & {name, *(it.name for it in self.checks)}):
                 return

@@ -11,7 +11,6 @@ pub(crate) struct Stating {
 }
 
 /// A block whose tree is read.
-#[derive(Drop)]
 pub(crate) struct Begun {
     pub tree: Stream,
     pub collected: Collected,
@@ -20,6 +19,19 @@ pub(crate) struct Begun {
     /// Whether its scope is complete.
     pub closed: bool,
     pub stating: Option<Stating>,
+}
+
+// (derived, it would be proved anew, with all trees, in each crate above that drops a task)
+impl Drop for Begun {
+    fn drop(self) {
+        let Begun {
+            tree: _,
+            collected: _,
+            placed: _,
+            closed: _,
+            stating: _,
+        } = self;
+    }
 }
 
 /// How far a task is.
