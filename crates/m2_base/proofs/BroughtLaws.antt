@@ -1,5 +1,5 @@
 -- The names that were brought: how many come before an item, and the first entry of each name.
-use Rattle.std.proofs.Common.{◌≡◌, ℕ, zero, suc, ◌+◌, ◌-◌, ◌<◌, ◌≤◌, refl, sym, ap, ◌∙◌, cond, Bool, true, false, nat_eq, nat_lt, List, [], ◌∷◌, ◌++◌, length, take, filter, Option, Some, None, slice_index_or, arith}
+use Rattle.std.proofs.Common.{◌≡◌, ℕ, zero, suc, ◌+◌, ◌<◌, ◌≤◌, refl, sym, ap, ◌∙◌, cond, Bool, true, false, nat_eq, nat_lt, List, [], ◌∷◌, ◌++◌, length, take, filter, Option, Some, None, slice_index_or, arith}
 use Rattle.std.specs.List.Sorted.{IsNonDecreasingBy, IsPartitionPoint, IsPartitionedBy}
 use Rattle.std.proofs.lemmas.List.Sorted.{IsPartitionedBy-ltb}
 use Rattle.std.proofs.lemmas.List.{take_all, take_more}

@@ -1,5 +1,5 @@
 -- What holds of each element of lists that are put together or taken apart, or of what is found in one.
-use Rattle.std.specs.Prelude.{Bool, true, false, if◌then◌else◌, List, [], ◌∷◌, ◌++◌, find, Option, Some, None}
+use Rattle.std.specs.Prelude.{Bool, true, false, if◌then◌else◌, List, [], ◌∷◌, ◌++◌, find, Some}
 use Rattle.m2_base.specs.Lists.{Each, WhereKept}
 
 pub each_all : {A : Type 0} (P : A → Type 0) (xs : List A) → ((x : A) → P x) → Each P xs

@@ -1,12 +1,11 @@
 -- The rows of the constants that an import brings: they have their shapes, are new in their scope, and aren't too many.
-use Rattle.std.specs.Prelude.{◌≡◌, ◌⊎◌, refl, ℕ, suc, ◌+◌, ◌<◌, ◌≤◌, ◌==◌, nat_lt, Bool, true, false, ◌||◌, if◌then◌else◌, is_some, List, [], ◌∷◌, ◌++◌, length, map, flat_map, slice_set, unwrap_or, Option, Some, None}
-use Rattle.std.proofs.Common.{ap, subst, sym, ◌∙◌, inl, inr, arith}
-use Rattle.std.specs.List.{list_any}
+use Rattle.std.specs.Prelude.{◌≡◌, ◌⊎◌, refl, ℕ, suc, ◌+◌, ◌<◌, ◌≤◌, ◌==◌, Bool, true, false, ◌||◌, if◌then◌else◌, is_some, List, [], ◌∷◌, ◌++◌, length, map, unwrap_or, Option, Some, None}
+use Rattle.std.proofs.Common.{ap, sym, ◌∙◌, inl, inr, arith}
 use Rattle.std.proofs.lemmas.Bool.{cases_order, ltb-false}
-use Rattle.std.proofs.lemmas.List.{length-append, length-map, length-set, get_or_past}
-use Rattle.m2_base.specs.Rows.{Row, Alias, alias_kind, row_of}
+use Rattle.std.proofs.lemmas.List.{length-append, length-set, get_or_past}
+use Rattle.m2_base.specs.Rows.{Row}
 use Rattle.m2_base.specs.Standard.{is_standard}
-use Rattle.m2_base.specs.Tables.{first_named, found_or, rows_at}
+use Rattle.m2_base.specs.Tables.{first_named, found_or}
 use Rattle.m2_base.specs.Statics.Contexts.{Context, Layout, Named, Scene}
 use Rattle.m2_base.specs.Statics.ImportedConstants.{Member, are_too_many, brings, brought_names, brought_row, is_given, new_members}
 use Rattle.m2_base.specs.Statics.Layouts.{brought_shape, extended, with_brought}

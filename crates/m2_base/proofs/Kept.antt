@@ -2,7 +2,7 @@
 use Rattle.std.proofs.Common.{◌≡◌, ℕ, ◌<◌, true, List, [], ◌∷◌, ◌++◌, Option, Some, None, refl, sym, ◌∙◌, ap, subst, arith, append_assoc, inl, inr}
 use Rattle.m2_base.specs.Finished.{WhereFinished}
 use Rattle.m2_base.specs.Gives.{Gives, gives, and_then, Adds}
-use Rattle.m2_base.specs.Lists.{IsPrefixOf, IsIn, Each, Grows}
+use Rattle.m2_base.specs.Lists.{IsPrefixOf, IsIn, Grows}
 use Rattle.m2_base.specs.Rows.{Row, Place}
 use Rattle.m2_base.specs.Scopes.{Searched, looks_of, Entered, Completed}
 use Rattle.m2_base.specs.States.{State, Frame, Setting, IsSound, Look, Mark, IsLater, Keeps, Turns, Works, Waits, IsAmong, texts_of, fills_of}

@@ -1,5 +1,5 @@
 -- The imports and the front of tokens of which each has a property, as a leaf: each of their names has it.
-use Rattle.std.specs.Prelude.{Bool, true, false, List, [], ◌∷◌, Option, Some, None}
+use Rattle.std.specs.Prelude.{Bool, true, false, List, Option, Some, None}
 use Rattle.std.proofs.Common.{subst}
 use Rattle.ll_grammar.specs.Derivations.{Tree, tokens, Derives, of_empty, of_then, of_left, of_right, of_last, of_more}
 use Rattle.ll_grammar.specs.Grammar.{Rule, many}

@@ -1,14 +1,14 @@
 -- Trees whose leaves are as tokens were read are as read, and so are the items and the statements of streams over such tokens.
-use Rattle.std.specs.Prelude.{ℕ, ◌<◌, ◌^◌, List, [], ◌∷◌, Option, Some, None}
+use Rattle.std.specs.Prelude.{ℕ, ◌<◌, ◌^◌, List, Option, Some, None}
 use Rattle.std.proofs.Common.{arith}
 use Rattle.ll_grammar.specs.Texts as texts
 use Rattle.m2_base.specs.Grammar as rules
 use Rattle.m2_base.specs.Grammar.{grammar, levels}
 use Rattle.m2_base.specs.Lists.{Each}
 use Rattle.m2_base.specs.Statics.Items.{Item, const_item, heading_item, import_item, items_of, proc_item, type_item, vars_item}
-use Rattle.m2_base.specs.Statics.Leaves.{Leaf, token_leaf, name_leaf, number_leaf, character_leaf, string_leaf, stream_leaf, ArmHas, ArmsHave, CaseArmHas, CaseArmsHave, CaseElseHas, DesignatorHas, ExprHas, ExprOptionHas, ExprsHave, FieldHas, FieldsHave, FormHas, FormalsHave, HeadingHas, IfArmHas, IfArmsHave, ItemHas, LabelHas, LabelsHave, NameOptionHas, NamesHave, NextHas, NextsHave, QualHas, QualOptionHas, SectionHas, SelectorHas, SelectorsHave, StatementFormHas, StatementHas, StatementsHave, StreamHas, TypeFormHas, TypeHas, TypeOptionHas, TypesHave}
+use Rattle.m2_base.specs.Statics.Leaves.{Leaf, token_leaf, name_leaf, number_leaf, character_leaf, string_leaf, stream_leaf, ArmHas, ArmsHave, CaseArmHas, CaseArmsHave, CaseElseHas, DesignatorHas, ExprHas, ExprOptionHas, ExprsHave, FieldHas, FieldsHave, FormHas, FormalsHave, HeadingHas, IfArmHas, IfArmsHave, ItemHas, LabelHas, LabelsHave, NameOptionHas, NextHas, NextsHave, QualHas, QualOptionHas, SectionHas, SelectorHas, SelectorsHave, StatementFormHas, StatementHas, StatementsHave, StreamHas, TypeFormHas, TypeHas, TypeOptionHas, TypesHave}
 use Rattle.m2_base.specs.Statics.ReadStatements.{AreReadCaseArms, AreReadIfArms, AreReadStatements, IsReadCaseArm, IsReadCaseElse, IsReadExprOption, IsReadIfArm, IsReadStatement, IsReadStmtForm}
-use Rattle.m2_base.specs.Statics.ReadTrees.{AreReadArms, AreReadExprs, AreReadFields, AreReadFormals, AreReadLabels, AreReadNames, AreReadNexts, AreReadSelectors, AreReadTypes, IsReadArm, IsReadDesignator, IsReadExpr, IsReadField, IsReadForm, IsReadHeading, IsReadItem, IsReadLabel, IsReadName, IsReadNext, IsReadOption, IsReadQual, IsReadQualOption, IsReadSection, IsReadSelector, IsReadString, IsReadToken, IsReadType, IsReadTypeForm, IsReadTypeOption}
+use Rattle.m2_base.specs.Statics.ReadTrees.{AreReadArms, AreReadExprs, AreReadFields, AreReadFormals, AreReadLabels, AreReadNexts, AreReadSelectors, AreReadTypes, IsReadArm, IsReadDesignator, IsReadExpr, IsReadField, IsReadForm, IsReadHeading, IsReadItem, IsReadLabel, IsReadName, IsReadNext, IsReadOption, IsReadQual, IsReadQualOption, IsReadSection, IsReadSelector, IsReadString, IsReadToken, IsReadType, IsReadTypeForm, IsReadTypeOption}
 use Rattle.m2_base.specs.StreamsOf as streams
 use Rattle.m2_base.specs.Trees.{CaseArm, CaseArms, CaseElse, Designator, Expr, ExprForm, Exprs, FieldList, FieldLists, Heading, Ident, IfArm, IfArms, Label, Labels, Next, Nexts, Qual, Section, Selector, Selectors, Statement, Statements, StmtForm, Stream, StreamKind, TypeExpr, TypeExprs, TypeForm, VariantArm, VariantArms, array_type, assign_form, call_form, call_statement, case_arm, case_else, case_fields, case_form, char_form, deref_selector, designator, empty_form, enum_type, exit_form, expr, field_selector, for_form, if_arm, if_form, index_selector, loop_form, many_form, more_case_arms, more_exprs, more_fields, more_if_arms, more_labels, more_nexts, more_selectors, more_statements, more_types, more_variant_arms, name_form, named_type, next, no_case_arms, no_case_else, no_exprs, no_fields, no_if_arms, no_labels, no_nexts, no_selectors, no_statements, no_types, no_variant_arms, number_form, one_form, one_label, plain_fields, pointer_type, proc_type, range_label, record_type, repeat_form, return_form, set_form, set_type, statement, string_form, sub_type, type_expr, typed_set_form, variant_arm, while_form, with_form}
 use Rattle.m2_base.specs.declared.token.Token.{Token}

@@ -12,7 +12,7 @@ use Rattle.m2_base.specs.Statics.Cells.{most_cells}
 use Rattle.m2_base.specs.Statics.Contexts.{Block, Named, Scene, Source}
 use Rattle.m2_base.specs.Statics.FormedRows.{IsReady, IsRight}
 use Rattle.m2_base.specs.Statics.Items.{Item, items_of}
-use Rattle.m2_base.specs.Statics.Layouts.{names_of_item, names_from, layout_of}
+use Rattle.m2_base.specs.Statics.Layouts.{names_of_item, names_from}
 use Rattle.m2_base.specs.Statics.Makes.{scene_with}
 use Rattle.m2_base.specs.Statics.Shapes.{Shape, item_shapes}
 use Rattle.m2_base.specs.Statics.Types.{meaning_at, size_by}

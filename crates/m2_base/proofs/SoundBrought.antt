@@ -1,18 +1,17 @@
 -- The rows of the constants that an import brings are right.
-use Rattle.std.specs.Prelude.{◌≡◌, ℕ, zero, suc, ◌+◌, ◌^◌, ◌<◌, ◌≤◌, ◌==◌, Bool, true, false, not, ◌&&◌, if◌then◌else◌, List, [], ◌∷◌, ◌++◌, length, map, take, drop, slice_get, unwrap_or, Option, Some, None}
-use Rattle.std.proofs.Common.{subst, sym, ◌∙◌, refl, arith}
+use Rattle.std.specs.Prelude.{◌≡◌, ℕ, zero, suc, ◌+◌, ◌^◌, ◌<◌, ◌≤◌, ◌==◌, Bool, true, false, not, ◌&&◌, if◌then◌else◌, List, [], ◌∷◌, length, map, take, drop, slice_get, unwrap_or, Option, Some, None}
+use Rattle.std.proofs.Common.{subst, refl, arith}
 use Rattle.std.proofs.lemmas.List.{length-append, length-map}
-use Rattle.m2_base.specs.Lists.{Each, WhereKept}
-use Rattle.m2_base.specs.Rows.{Row, RowMeaning, Place, Alias, TypeName, Enum, alias_kind, at_place, row_meaning}
+use Rattle.m2_base.specs.Lists.{Each}
+use Rattle.m2_base.specs.Rows.{Row, RowMeaning, Place, Alias, TypeName, Enum, at_place, row_meaning}
 use Rattle.m2_base.specs.Statics.Contexts.{Context, Layout, Named, Scene}
-use Rattle.m2_base.specs.Statics.ImportedConstants.{Member, are_too_many, brings, brought_names, brought_row, constants_from, is_constant, is_given, members_by, members_of, members_of_row, members_of_type, new_members}
+use Rattle.m2_base.specs.Statics.ImportedConstants.{Member, are_too_many, brings, brought_names, brought_row, constants_from, is_constant, is_given, members_by, members_of, members_of_row, new_members}
 use Rattle.m2_base.specs.Statics.Layouts.{extended}
 use Rattle.m2_base.specs.Statics.Lookup.{Entry}
 use Rattle.m2_base.specs.Statics.Makes.{Makes, own_rows, scene_with, with_rows}
 use Rattle.m2_base.specs.Statics.Types.{meaning_at}
 use Rattle.m2_base.specs.Tables.{rows_at}
 use Rattle.m2_base.specs.declared.limits.TheConstants.{MOST_BROUGHT}
-use Rattle.m2_base.proofs.ImportLaws.{names_length}
 use Rattle.m2_base.proofs.EachLaws.{each_append}
 use Rattle.m2_base.proofs.Sound.{Sound, EntryOk, AreOk, no_ok, ok-append, at_ordinal, IsThere, there-with, Room, room-left, room-right}
 use Rattle.m2_base.proofs.SoundMade.{context-with, row_made}

@@ -1,8 +1,6 @@
 -- In a sound context the standard functions of constants give what is right.
-use Rattle.std.specs.Prelude.{◌≡◌, ℕ, ◌-◌, ◌%◌, ◌^◌, ◌<◌, Bool, true, false, not, ◌&&◌, if◌then◌else◌, ℤ, pos, negsuc, nat_abs, Option, Some, None, is_none}
+use Rattle.std.specs.Prelude.{◌≡◌, ℕ, ◌-◌, ◌^◌, ◌<◌, Bool, true, false, not, ◌&&◌, if◌then◌else◌, ℤ, pos, nat_abs, Option, Some, None, is_none}
 use Rattle.std.proofs.Common.{ap, ◌∙◌, refl, arith}
-use Rattle.std.proofs.Math.Facts.{leb_yes}
-use Rattle.std.proofs.Math.Nat.{mod-lt}
 use Rattle.std.proofs.lemmas.Bool.{both_ways}
 use Rattle.m2_base.specs.Gives.{Gives, gives}
 use Rattle.m2_base.specs.Rows.{Place, natural, RowMeaning, Array, Record, Fits, IsValue, is_same_place}
@@ -11,7 +9,7 @@ use Rattle.m2_base.specs.Statics.Assignable.{is_open_array}
 use Rattle.m2_base.specs.Statics.Compatible.{is_number_type}
 use Rattle.m2_base.specs.Statics.Contexts.{Context, refuse}
 use Rattle.m2_base.specs.Statics.Folding.{number_kind, number_type}
-use Rattle.m2_base.specs.Statics.Functions.{wrong_at, number_argument, ordinal_argument, type_argument, ordinal_type, ordinal_type_argument, converted, absolute, abs_of, is_small_letter, capital, cap_of, chr_of, odd_value, oddness, odd_of, ord_of, val_of, end_value, min_of, max_of, size_value}
+use Rattle.m2_base.specs.Statics.Functions.{wrong_at, number_argument, ordinal_argument, type_argument, ordinal_type, ordinal_type_argument, converted, absolute, abs_of, is_small_letter, capital, cap_of, chr_of, oddness, odd_of, ord_of, val_of, end_value, min_of, max_of, size_value}
 use Rattle.m2_base.specs.Statics.Operands.{is_bad, char_or_same}
 use Rattle.m2_base.specs.Statics.Operations.{base_type, is_ordinal}
 use Rattle.m2_base.specs.Statics.Ranges.{Range, is_within, integer_range}

@@ -1,5 +1,5 @@
 -- In a sound context the rows of every item are right.
-use Rattle.std.specs.Prelude.{◌≡◌, ℕ, ◌+◌, ◌^◌, ◌<◌, ◌≤◌, Bool, true, false, if◌then◌else◌, pos, filter, flat_map, List, [], ◌∷◌, ◌++◌, length, map, Option, Some, None}
+use Rattle.std.specs.Prelude.{◌≡◌, ℕ, ◌+◌, ◌^◌, ◌<◌, ◌≤◌, Bool, if◌then◌else◌, pos, flat_map, List, [], ◌∷◌, ◌++◌, length, map, Option, Some, None}
 use Rattle.std.proofs.Common.{ap, subst, sym, refl, arith}
 use Rattle.std.proofs.lemmas.List.{length-append, length-map}
 use Rattle.m2_base.specs.Lists.{Each, WhereKept}

@@ -1,10 +1,8 @@
 -- In a sound context operators, sets and functions give what is right.
-use Rattle.std.specs.Prelude.{◌≡◌, ℕ, ◌+◌, ◌-◌, ◌^◌, ◌<◌, ◌≤◌, Bool, true, false, not, ◌&&◌, ◌||◌, if◌then◌else◌, ◌⊎◌, ℤ, pos, negsuc, nat_le, nat_lt, ◌==◌, List, [], ◌∷◌, filter, length, Option, Some, None, option_map, slice_index_or}
+use Rattle.std.specs.Prelude.{◌≡◌, ℕ, ◌+◌, ◌^◌, ◌<◌, ◌≤◌, Bool, true, false, not, ◌&&◌, ◌||◌, if◌then◌else◌, ◌⊎◌, ℤ, pos, nat_lt, ◌==◌, List, [], ◌∷◌, filter, length, Option, Some, None, option_map, slice_index_or}
 use Rattle.std.proofs.Common.{ap, subst, sym, ◌∙◌, refl, inl, inr, arith}
-use Rattle.std.proofs.Math.Facts.{leb_yes}
-use Rattle.std.proofs.Math.Pow.{pow_mono}
-use Rattle.std.proofs.lemmas.Bool.{both_ways, and_parts, or_cases, leb-true}
-use Rattle.std.proofs.lemmas.Nat.{or_lt, pow_pos}
+use Rattle.std.proofs.lemmas.Bool.{both_ways, and_parts, or_cases}
+use Rattle.std.proofs.lemmas.Nat.{or_lt}
 use Rattle.m2_base.specs.Gives.{Gives, gives}
 use Rattle.m2_base.specs.Lists.{Each, WhereKept}
 use Rattle.m2_base.specs.Rows.{Row, Place, at_place, natural, row_of, row_meaning, RowMeaning, Text, Broken, Set, IsValue, is_same_place}

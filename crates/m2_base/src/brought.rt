@@ -1,14 +1,14 @@
 //! The names that the imports of a block have brought so far.
 ghost use Rattle.std.specs.Prelude.{◌≡◌, ℕ, nat_eq, ◌+◌, ◌++◌, ◌∷◌, ◌<◌, ◌≤◌, [], length, OnOk, OnErr};
-ghost use Rattle.indexmap.specs.IndexMap.{get, spare};
+ghost use Rattle.std.specs.HashMap.{get, spare};
 ghost use Rattle.m2_base.specs.Lists.{Each};
 ghost use Rattle.m2_base.specs.Statics.Lookup.{brought_before, entry_named, entry_or};
 ghost use Rattle.m2_base.specs.declared.limits.TheConstants.{MOST_BROUGHT};
 
 use crate::memory::Memory;
 use crate::sites::Named;
-use indexmap::IndexMap;
 use std::alloc::Global;
+use std::collections::HashMap;
 use std::marker::Model;
 
 /// The names that were brought, in the order of the items that brought them.
@@ -16,7 +16,7 @@ use std::marker::Model;
 pub(crate) struct BroughtNames {
     list: Vec<Named>,
     /// The first entry of each name.
-    index: IndexMap<u32, Named>,
+    index: HashMap<u32, Named>,
 }
 
 impl Model for BroughtNames {
@@ -37,7 +37,7 @@ impl BroughtNames {
         ensures { result ≡ [] }
     {
         let list = Vec::new(alloc);
-        let index = IndexMap::new(alloc);
+        let index = HashMap::new(alloc);
         BroughtNames { list, index }
     }
 
@@ -78,7 +78,7 @@ impl BroughtNames {
 }
 
 /// With the first entry of each of these names that isn't there.
-fn index_all(index: &mut IndexMap<u32, Named>, brought: &[Named])
+fn index_all(index: &mut HashMap<u32, Named>, brought: &[Named])
     requires room { length brought.now ≤ spare index.old }
     ensures { (name : ℕ)
         → get nat_eq index.new name ≡ entry_or (get nat_eq index.old name) (entry_named brought.now name) }
@@ -89,7 +89,7 @@ fn index_all(index: &mut IndexMap<u32, Named>, brought: &[Named])
 }
 
 /// With one more name, if it isn't there.
-fn index_one(index: &mut IndexMap<u32, Named>, named: Named)
+fn index_one(index: &mut HashMap<u32, Named>, named: Named)
     requires room { 0 < spare index.old }
     ensures first { (name : ℕ)
         → get nat_eq index.new name ≡ entry_or (get nat_eq index.old name) (entry_named (named ∷ []) name) }

@@ -1,14 +1,17 @@
 //! Names as numbers.
-ghost use Rattle.std.specs.Prelude.{◌≡◌, ◌+◌, ◌-◌, ◌^◌, ◌<◌, ◌≤◌, List, [], ℕ, length, map, slice_get, Some, IsSome};
-ghost use Rattle.std.specs.Prelude.{IsOk, IfOk, OnOk, OnErr};
+ghost use Rattle.std.specs.Prelude.{◌≡◌, ◌+◌, ◌-◌, ◌^◌, ◌<◌, List, ℕ, length, map, slice_get, Some, IsSome};
+ghost use Rattle.std.specs.Prelude.{IsOk, IfOk, OnOk, OnErr, if◌then◌else◌};
 ghost use Rattle.std.specs.Hash.DefaultHasher.{initial, write};
 ghost use Rattle.sha2.specs.Sha512.{sha512};
-ghost use Rattle.m2_base.specs.Names.{with_name, with_names, number_in, standard_names};
+ghost use Rattle.std.specs.HashMap.{get_by};
+ghost use Rattle.std.specs.List.{IsDistinct};
+ghost use Rattle.std.specs.Str.{bytes_eq};
+ghost use Rattle.m2_base.specs.Names.{AreNumbersOf, with_name, with_names, number_in, standard_names};
 
 use crate::memory::Memory;
-use indexmap::IndexSet;
 use sha2::{Digest, Sha512};
 use std::alloc::Global;
+use std::collections::HashMap;
 use std::hash::{BuildHasher, DefaultHasher, Hasher};
 use std::marker::Model;
 
@@ -83,17 +86,21 @@ impl BuildHasher for NameHasher {
 /// The names of a unit, each under its number. They are seen as the list of their texts, which all differ.
 #[derive(Drop)]
 pub struct Names {
-    texts: IndexSet<Vec<u8>, NameHasher>,
+    /// Each text at its number.
+    texts: Vec<Vec<u8>>,
+    /// The number of each text. Its keys are texts of their own.
+    numbers: HashMap<Vec<u8>, u32, NameHasher>,
 }
 
 impl Model for Names {
-    ghost use Rattle.std.specs.Prelude.{List, ℕ, ◌<◌, ◌^◌, length, map};
+    ghost use Rattle.std.specs.Prelude.{List, ℕ, map};
+    ghost use Rattle.m2_base.specs.Names.{AreIndexed};
 
     ghost Value = { List (List ℕ) };
 
-    ghost view = { λ n. map (λ text. text.items) n.texts.keys };
+    ghost view = { λ n. map (λ text. text.items) n.texts.items };
 
-    ghost invariant = { λ n. length n.texts.keys < 2 ^ 32 };
+    ghost invariant = { λ n. AreIndexed (λ text. text.items) n.numbers (map (λ text. text.items) n.texts.items) };
 }
 
 impl Names {
@@ -101,9 +108,9 @@ impl Names {
     pub fn new(alloc: Global) -> Result<Names, Memory>
         ensures { IfOk result (λ names. names ≡ standard_names) }
     {
-        let mut names = Names {
-            texts: IndexSet::with_hasher(alloc, NameHasher::new()),
-        };
+        let texts = Vec::new(alloc);
+        let numbers = HashMap::with_hasher(alloc, NameHasher::new());
+        let mut names = Names { texts, numbers };
         names.intern_all(alloc, &STANDARD_NAMES)?;
         Ok(names)
     }
@@ -129,12 +136,16 @@ impl Names {
         // A text that has a number needs no memory.
         ensures known { IsSome (number_in self.old bytes.now) → IsOk result }
     {
-        if let Some(number) = self.texts.get_index_of(bytes) {
-            return Ok(number as u32);
+        if let Some(number) = self.numbers.get(bytes) {
+            return Ok(*number);
         }
+        let number = self.texts.len() as u32;
+        self.texts.reserve(1)?;
         let text = bytes.to_vec(alloc)?;
-        let (number, _) = self.texts.insert_full(text)?;
-        Ok(number as u32)
+        let key = bytes.to_vec(alloc)?;
+        put_number(&mut self.numbers, key, number)?;
+        self.texts.push(text).unwrap();
+        Ok(number)
     }
 
     /// Makes ready for the names of a text: its names can't be chosen so that finding their numbers grows slow. It
@@ -142,10 +153,8 @@ impl Names {
     pub fn prepare(&mut self, alloc: Global, text: &[u8]) -> Result<(), Memory>
         ensures { self.new ≡ self.old }
     {
-        let hasher = self.texts.hasher().with_text(text);
-        let mut texts = IndexSet::with_capacity_and_hasher(alloc, self.texts.len(), hasher)?;
-        texts.append(&mut self.texts)?;
-        self.texts = texts;
+        let hasher = self.numbers.hasher().with_text(text);
+        self.numbers = numbers_of(alloc, hasher, &self.texts)?;
         Ok(())
     }
 
@@ -162,6 +171,37 @@ impl Names {
         ensures text { slice_get self.now name ≡ Some result.now }
         ensures number { number_in self.now result.now ≡ Some name }
     {
-        self.texts.as_slice()[name as usize].as_slice()
+        &self.texts[name as usize]
     }
+}
+
+/// Gives a text a number.
+fn put_number(
+    numbers: &mut HashMap<Vec<u8>, u32, NameHasher>,
+    text: Vec<u8>,
+    number: u32,
+) -> Result<(), Memory>
+    ensures put { OnOk result ((bytes : List ℕ) → get_by (λ key. bytes_eq bytes key.items) numbers.new
+        ≡ (if bytes_eq bytes text.items then Some number else get_by (λ key. bytes_eq bytes key.items) numbers.old)) }
+    ensures unchanged { OnErr result (numbers.new.entries ≡ numbers.old.entries) }
+{
+    numbers.insert(text, number)?;
+    Ok(())
+}
+
+/// The number of each text, which is its place, under this hasher.
+fn numbers_of(
+    alloc: Global,
+    hasher: NameHasher,
+    texts: &[Vec<u8>],
+) -> Result<HashMap<Vec<u8>, u32, NameHasher>, Memory>
+    requires differ { IsDistinct bytes_eq (map (λ text. text.items) texts.now) }
+    requires few { length texts.now < 2 ^ 32 }
+    ensures { IfOk result (λ numbers. AreNumbersOf (λ text. text.items) numbers (map (λ text. text.items) texts.now)) }
+{
+    let mut numbers = HashMap::with_capacity_and_hasher(alloc, texts.len(), hasher)?;
+    for (number, text) in texts.iter().enumerate() {
+        put_number(&mut numbers, text.to_vec(alloc)?, number as u32)?;
+    }
+    Ok(numbers)
 }

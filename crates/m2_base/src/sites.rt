@@ -9,8 +9,8 @@ use crate::brought::BroughtNames;
 use crate::memory::Memory;
 use crate::replies::Chain;
 use crate::texts::Texts;
-use indexmap::IndexMap;
 use std::alloc::Global;
+use std::collections::HashMap;
 use std::marker::Model;
 
 /// What surrounds a block.
@@ -45,7 +45,7 @@ pub struct Layout {
     names: Vec<Named>,
     firsts: Vec<u32>,
     /// The first entry of each name that the syntax declares.
-    index: IndexMap<u32, Named>,
+    index: HashMap<u32, Named>,
     brought: BroughtNames,
 }
 
@@ -150,10 +150,10 @@ impl Layout {
 }
 
 /// The first entry of each name.
-fn index_of(alloc: Global, names: &[Named]) -> Result<IndexMap<u32, Named>, Memory>
+fn index_of(alloc: Global, names: &[Named]) -> Result<HashMap<u32, Named>, Memory>
     ensures { IfOk result (λ index. IsIndexed index names.now) }
 {
-    let mut index = IndexMap::new(alloc);
+    let mut index = HashMap::new(alloc);
     for named in names.iter().rev() {
         index.insert(named.name, *named)?;
     }

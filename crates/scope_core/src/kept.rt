@@ -2,7 +2,7 @@
 ghost use Rattle.std.specs.Prelude.{◌≡◌, ℕ, ◌+◌, ◌-◌, ◌<◌, ◌≤◌, ◌≢◌, ◌^◌, [], ◌∷◌, length, nat_lt, slice_get};
 ghost use Rattle.std.specs.Prelude.{slice_index, OnOk, OnErr, IsOk, IfOk, replicate, if◌then◌else◌};
 ghost use Rattle.std.specs.Option.{option_or};
-ghost use Rattle.indexmap.specs.IndexMap.{get, spare};
+ghost use Rattle.std.specs.HashMap.{get, spare};
 ghost use Rattle.m2_base.specs.Keys.{field_before, first_keyed, is_keyed, is_same_key, one_thread_field};
 ghost use Rattle.m2_base.specs.Lists.{Each};
 ghost use Rattle.m2_base.specs.declared.rows.RowKey.{RowKey as Key};
@@ -12,9 +12,9 @@ ghost use Rattle.scope_core.specs.PlainScopes.{first_tables};
 ghost use Rattle.m2_base.specs.Tables.{one_thread_row};
 ghost use Rattle.scope_core.specs.Kept.{tables_in, rooms_in, longer, marked, with_rows, completed};
 
-use indexmap::IndexMap;
 use m2_base::{Ask, Head, Memory, Place, Reply, Row, RowKey, row_key, standard_rows};
 use std::alloc::{AllocError, Global};
+use std::collections::HashMap;
 use std::marker::Model;
 
 /// The rows of a scope and its mark, with an index, so that a search doesn't scan the rows.
@@ -23,12 +23,12 @@ pub struct Kept {
     rows: Vec<Row>,
     complete: bool,
     /// The ordinal of the first row of each key.
-    index: IndexMap<RowKey, u32>,
+    index: HashMap<RowKey, u32>,
 }
 
 impl Model for Kept {
     ghost use Rattle.std.specs.Prelude.{◌+◌, length, min, vec_capacity};
-    ghost use Rattle.indexmap.specs.IndexMap.{get, spare};
+    ghost use Rattle.std.specs.HashMap.{get, spare};
     ghost use Rattle.m2_base.specs.Keys.{is_same_key};
     ghost use Rattle.scope_core.specs.Kept.{TableWithRoom, IsIndexOf};
 
@@ -49,7 +49,7 @@ impl Kept {
         ensures room { IfOk result (λ kept. size ≤ kept.room) }
     {
         let rows = Vec::with_capacity(alloc, size)?;
-        let index = IndexMap::with_capacity(alloc, size)?;
+        let index = HashMap::with_capacity(alloc, size)?;
         Ok(Kept {
             rows,
             complete: false,
@@ -166,24 +166,26 @@ impl Kept {
 }
 
 /// What stands under a key.
-fn ordinal_of(index: &IndexMap<RowKey, u32>, key: RowKey) -> Option<u32>
+fn ordinal_of(index: &HashMap<RowKey, u32>, key: RowKey) -> Option<u32>
     ensures { result ≡ get is_same_key index.now key }
 {
     index.get(&key).copied()
 }
 
 /// Puts an ordinal under a key.
-fn put_ordinal(index: &mut IndexMap<RowKey, u32>, key: RowKey, ordinal: u32)
+fn put_ordinal(index: &mut HashMap<RowKey, u32>, key: RowKey, ordinal: u32)
     requires { 0 < spare index.old }
     ensures put { (k : Key)
         → get is_same_key index.new k ≡ (if is_same_key key k then Some ordinal else get is_same_key index.old k) }
     ensures room { spare index.old ≤ spare index.new + 1 }
 {
-    index.insert(key, ordinal).unwrap();
+    let Ok(_) = index.insert(key, ordinal) else {
+        unreachable!()
+    };
 }
 
 /// Puts an ordinal under a key that has none yet.
-fn note_first(index: &mut IndexMap<RowKey, u32>, key: Option<RowKey>, ordinal: u32)
+fn note_first(index: &mut HashMap<RowKey, u32>, key: Option<RowKey>, ordinal: u32)
     requires { 0 < spare index.old }
     ensures noted { (k : Key) → get is_same_key index.new k
         ≡ option_or (get is_same_key index.old k) (if is_keyed k key then Some ordinal else None) }

@@ -12,7 +12,6 @@ use Rattle.m2_base.specs.Statics.Makes.{Makes, own_rows}
 use Rattle.m2_base.specs.Statics.Types.{meaning_at}
 use Rattle.m2_base.specs.Statics.Uses.{followed}
 use Rattle.m2_base.specs.Tables.{rows_at}
-use Rattle.m2_base.specs.Trees.{Ident}
 use Rattle.m2_base.specs.declared.notes.Diag.{Diag}
 use Rattle.m2_base.specs.declared.limits.TheConstants.{MOST_BROUGHT}
 

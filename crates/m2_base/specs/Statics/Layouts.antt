@@ -1,7 +1,7 @@
 -- The layout of a block: what follows from the syntax alone, and how it grows by the names that imports bring.
 use Rattle.std.specs.Prelude.{◌≡◌, ◌<◌, ◌≤◌, ◌^◌, List, [], flat_map, length, map, nat_eq, ℕ, ◌+◌, if◌then◌else◌}
 use Rattle.std.specs.Prelude.{Option, option_map, slice_get, ◌∷◌, ◌++◌, ◌==◌}
-use Rattle.indexmap.specs.IndexMap.{IndexMap, get}
+use Rattle.std.specs.HashMap.{HashMap, get}
 use Rattle.m2_base.specs.Lists.{Each}
 pub use Rattle.m2_base.specs.Statics.Contexts.{Layout}
 use Rattle.m2_base.specs.Statics.Contexts.{Named}
@@ -67,7 +67,7 @@ all_brought brought = flat_map (λ b. b) brought
 -- ** What code keeps of a layout
 
 -- the index gives the first entry of each name
-abbrev pub IsIndexed : {S : Type 0} → IndexMap ℕ Named S → List Named → Type 0
+abbrev pub IsIndexed : {S : Type 0} → HashMap ℕ Named S → List Named → Type 0
 IsIndexed index names = (name : ℕ) → get nat_eq index name ≡ entry_named names name
 
 -- each of these was brought by the item of the one before it or by a later one

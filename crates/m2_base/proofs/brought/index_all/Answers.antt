@@ -1,5 +1,5 @@
 use Rattle.std.proofs.Common.{nat_eq, arith}
-use Rattle.indexmap.specs.IndexMap.{get, spare}
+use Rattle.std.specs.HashMap.{get, spare}
 use Rattle.m2_base.proofs.BroughtLaws.{all_indexed, none_yet, one_further}
 use Rattle.m2_base.proofs.brought.index_all.Goals as goal
 

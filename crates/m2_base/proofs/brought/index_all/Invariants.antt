@@ -1,7 +1,7 @@
 -- Of the names gone over so far each has its first entry in the index.
 use Rattle.m2_base.proofs.brought.index_all.Given as goal
 use Rattle.std.specs.Prelude.{nat_eq}
-use Rattle.indexmap.specs.IndexMap.{get, spare}
+use Rattle.std.specs.HashMap.{get, spare}
 use Rattle.m2_base.proofs.BroughtLaws.{IsIndexedTo}
 
 abbrev pub invariant-loop-named : goal.invariant-loop-named

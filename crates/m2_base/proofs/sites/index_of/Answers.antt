@@ -1,6 +1,6 @@
 use Rattle.std.proofs.Common.{ap, ◌∙◌, nat_eq}
 use Rattle.std.specs.Map.{lookup}
-use Rattle.indexmap.specs.IndexMap.{get}
+use Rattle.std.specs.HashMap.{get}
 use Rattle.m2_base.proofs.LayoutIndex.{none_behind, one_more, all_found}
 use Rattle.m2_base.proofs.sites.index_of.Goals as goal
 

@@ -1,7 +1,7 @@
 -- What stands behind the names that are left is in the index.
 use Rattle.m2_base.proofs.sites.index_of.Given as goal
 use Rattle.std.specs.Prelude.{nat_eq}
-use Rattle.indexmap.specs.IndexMap.{get}
+use Rattle.std.specs.HashMap.{get}
 use Rattle.m2_base.proofs.LayoutIndex.{IsFoundBehind}
 
 abbrev pub invariant-loop-named : goal.invariant-loop-named

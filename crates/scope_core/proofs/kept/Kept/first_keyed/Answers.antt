@@ -1,5 +1,5 @@
 use Rattle.std.proofs.Common.{Some, ap, sym, ◌∙◌, arith}
-use Rattle.indexmap.specs.IndexMap.{get}
+use Rattle.std.specs.HashMap.{get}
 use Rattle.m2_base.specs.Keys.{first_keyed, is_same_key}
 use Rattle.scope_core.specs.Kept.{TableWithRoom}
 use Rattle.scope_core.proofs.Indexing.{indexed_row, indexed_within}

@@ -1,7 +1,7 @@
 use Rattle.std.proofs.Common.{◌≡◌, [], ◌∷◌, ◌++◌, Option, Some, None, if◌then◌else◌, subst, sym, ◌∙◌, arith}
 use Rattle.std.specs.Option.{option_or}
 use Rattle.std.proofs.lemmas.Grind.{common_steps}
-use Rattle.indexmap.specs.IndexMap.{get}
+use Rattle.std.specs.HashMap.{get}
 use Rattle.m2_base.specs.declared.rows.RowKey.{RowKey}
 use Rattle.m2_base.specs.Keys.{is_keyed, is_same_key, row_key}
 use Rattle.scope_core.specs.Kept.{IsIndexOf}
