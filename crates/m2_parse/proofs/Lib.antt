@@ -1,3 +1,4 @@
+pub mod Bodies
 pub mod EachKind
 pub mod ExpressionLinks
 pub mod FrontLaws

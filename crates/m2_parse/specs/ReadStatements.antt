@@ -11,7 +11,7 @@ use Rattle.m2_base.specs.Trees.{case_form, while_form, repeat_form, for_form, wi
 use Rattle.m2_base.specs.Trees.{statements, IfArm, if_arm, if_arms, CaseArm, case_arm, case_arms}
 use Rattle.m2_base.specs.StatementsOf.{assignment, invocation, other_statements, case_else_with}
 use Rattle.ll_grammar.specs.Readers.{◌>>=◌, listed, repeat, itself, all, at_depth}
-use Rattle.m2_parse.specs.Reading.{Read, tell, place, next_is, next_in, expect}
+use Rattle.m2_parse.specs.Reading.{Read, tell, place, next_is, next_in, expect, until}
 use Rattle.m2_parse.specs.ReadNames.{ident_at}
 use Rattle.m2_parse.specs.ReadExpressions.{begins_expr, expr_with, labels_with, designator_with, actuals_with}
 use Rattle.m2_parse.specs.ReadExpressions.{factor_at}
@@ -70,6 +70,14 @@ step_at n ts =
       e ← expr_at n b.1
       Ok (Some e.0, e.1)) else Ok (None, ts)
 
+-- TO Expr [BY Expr]
+unfoldable pub limit_at : ℕ → Read (Expr × Option Expr)
+limit_at n ts = do
+  o ← expect To ts
+  last ← expr_at n o.1
+  by ← step_at n last.1
+  Ok ((last.0, by.0), by.1)
+
 module _ (n : ℕ) (reader : Read Statement) where
   -- Stmts = Stmt {";" Stmt}; an empty one is at the token after it
   unfoldable pub optional_statement_with : Read Statement
@@ -104,6 +112,13 @@ module _ (n : ℕ) (reader : Read Statement) where
   abbrev pub elsifs_with : Read (List IfArm)
   elsifs_with ts = repeat (next_is Elsif) elsif_with itself (length ts) ts
 
+  -- Expr THEN Stmts {ELSIF Expr THEN Stmts}
+  unfoldable pub if_arms_with : Read (List IfArm)
+  if_arms_with ts = do
+    a ← if_arm_with ts
+    more ← elsifs_with a.1
+    Ok (a.0 ∷ more.0, more.1)
+
   -- IF Expr THEN Stmts {ELSIF Expr THEN Stmts} [ELSE Stmts] END
   unfoldable pub if_with : Read Statement
   if_with ts = do
@@ -136,6 +151,12 @@ module _ (n : ℕ) (reader : Read Statement) where
     other ← otherwise_with arms.1
     e ← expect End other.1
     Ok (statement t.0.at (case_form x.0 (case_arms arms.0) (case_else_with other.0)), e.1)
+
+  -- DO Stmts END
+  unfoldable pub body_with : Read (List Statement)
+  body_with ts = do
+    d ← expect Do ts
+    until End (statements_with d.1)
 
   -- WHILE Expr DO Stmts END
   unfoldable pub while_with : Read Statement

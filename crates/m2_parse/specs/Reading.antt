@@ -11,6 +11,7 @@ use Rattle.m2_parse.specs.declared.faults.Refusal.TheVariants as refusals
 use Rattle.m2_parse.specs.declared.faults.ReadFault.{ReadFault}
 use Rattle.m2_parse.specs.declared.faults.ReadFault.TheVariants.{Memory, Refused}
 use Rattle.ll_grammar.specs.Sentences.{Fault, Syntax, TooDeep}
+use Rattle.ll_grammar.specs.Readers.{◌>>=◌}
 use Rattle.ll_grammar.specs.Readers as readers
 
 -- the number of the next token
@@ -56,6 +57,13 @@ expect kind ts = readers.expect tell number_of_token (kind_number kind) ts
 
 abbrev pub expect_in : List TokenKind → Read Token
 expect_in kinds ts = readers.expect_in tell number_of_token (map kind_number kinds) ts
+
+-- what was read, with a token of this kind behind it
+unfoldable pub until : {X : Type 0} → TokenKind → Result (X × List Token) Refusal → Result (X × List Token) Refusal
+until kind read = do
+  x ← read
+  e ← expect kind x.1
+  Ok (x.0, e.1)
 
 -- a token of this kind stands there and is taken, or none does and nothing changes
 abbrev pub Takes : TokenKind → Option Token → (old new : List Token) → Type 0

@@ -1,9 +1,10 @@
 //! Reading declarations. `depth` is the number of levels that are left.
 ghost use Rattle.std.specs.Prelude.{◌≡◌, map, length};
 ghost use Rattle.m2_base.specs.StreamsOf.{Block as SpecBlock};
-ghost use Rattle.m2_base.specs.Views.{section_view, heading_view, decl_view, statement_view};
+ghost use Rattle.m2_base.specs.Views.{section_view, heading_view, decl_view, statement_view, type_view};
 ghost use Rattle.m2_parse.specs.BlockViews.{block_view};
-ghost use Rattle.m2_parse.specs.Reading.{Gives};
+ghost use Rattle.m2_base.specs.declared.kind.TokenKind.TheVariants.{Semicolon};
+ghost use Rattle.m2_parse.specs.Reading.{Gives, until};
 ghost use Rattle.m2_parse.specs.ReadStreams.{begins_section as spec_begins_section};
 ghost use Rattle.m2_parse.specs.ReadStreams.{begins_declaration as spec_begins_declaration, section_at};
 ghost use Rattle.m2_parse.specs.ReadStreams.{some_sections_at, parameters_at, heading_at, constant_at, constants_at};
@@ -11,16 +12,17 @@ ghost use Rattle.m2_parse.specs.ReadStreams.{type_declaration_at, type_declarati
 ghost use Rattle.m2_parse.specs.ReadStreams.{defined_types_at, variables_at, all_variables_at, procedure_at};
 ghost use Rattle.m2_parse.specs.ReadStreams.{declaration_at, declarations_at, body_at, block_at};
 ghost use Rattle.m2_parse.specs.ReadStreams.{definition_declaration_at, definition_declarations_at};
+ghost use Rattle.m2_parse.specs.ReadTypes.{type_at};
 
 use crate::blocks::Block;
-use crate::expressions::expr;
+use crate::expressions::expr_until;
 use crate::faults::ReadFault;
 use crate::lists::{all_repeated, listed, repeated};
 use crate::names::{ident, idents, qual};
 use crate::statements::statements;
 use crate::tokens::Tokens;
 use crate::types::{by_reference, open_array, result_type, type_expr};
-use m2_base::{Decl, Heading, Qual, Section, Statement, TokenKind};
+use m2_base::{Decl, Heading, Qual, Section, Statement, TokenKind, TypeExpr};
 use std::alloc::Global;
 
 fn begins_section(tokens: &Tokens) -> bool
@@ -110,9 +112,18 @@ fn constant(alloc: Global, tokens: &mut Tokens, depth: usize) -> Result<Decl, Re
 {
     let name = ident(tokens)?;
     tokens.expect(TokenKind::Equal)?;
-    let value = expr(alloc, tokens, depth)?;
-    tokens.expect(TokenKind::Semicolon)?;
+    let value = expr_until(alloc, tokens, depth, TokenKind::Semicolon)?;
     Ok(Decl::Const { name, value })
+}
+
+/// Type ";"
+fn ended_type(alloc: Global, tokens: &mut Tokens, depth: usize) -> Result<TypeExpr, ReadFault>
+    ensures { Gives (λ x. (type_view x, tokens.new.list.now)) result
+        (until Semicolon (type_at depth tokens.old.list.now)) }
+{
+    let found = type_expr(alloc, tokens, depth)?;
+    tokens.expect(TokenKind::Semicolon)?;
+    Ok(found)
 }
 
 /// ident "=" Type ";"
@@ -122,8 +133,7 @@ fn type_declaration(alloc: Global, tokens: &mut Tokens, depth: usize) -> Result<
 {
     let name = ident(tokens)?;
     tokens.expect(TokenKind::Equal)?;
-    let typ = type_expr(alloc, tokens, depth)?;
-    tokens.expect(TokenKind::Semicolon)?;
+    let typ = ended_type(alloc, tokens, depth)?;
     let typ = Some(typ);
     Ok(Decl::Types { name, typ })
 }
@@ -138,8 +148,7 @@ fn defined_type(alloc: Global, tokens: &mut Tokens, depth: usize) -> Result<Decl
         tokens.expect(TokenKind::Semicolon)?;
         return Ok(Decl::Types { name, typ: None });
     };
-    let typ = type_expr(alloc, tokens, depth)?;
-    tokens.expect(TokenKind::Semicolon)?;
+    let typ = ended_type(alloc, tokens, depth)?;
     let typ = Some(typ);
     Ok(Decl::Types { name, typ })
 }
@@ -151,8 +160,7 @@ fn variables(alloc: Global, tokens: &mut Tokens, depth: usize) -> Result<Decl, R
 {
     let names = idents(alloc, tokens)?;
     tokens.expect(TokenKind::Colon)?;
-    let typ = type_expr(alloc, tokens, depth)?;
-    tokens.expect(TokenKind::Semicolon)?;
+    let typ = ended_type(alloc, tokens, depth)?;
     Ok(Decl::Vars { names, typ })
 }
 

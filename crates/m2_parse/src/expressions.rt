@@ -2,7 +2,7 @@
 ghost use Rattle.std.specs.Prelude.{◌≡◌, [], ◌∷◌, map, length, IfOk};
 ghost use Rattle.m2_base.specs.Trees.{with_operators as spec_with_operators};
 ghost use Rattle.m2_base.specs.Views.{expr_view, next_view, designator_view, selector_view, label_view};
-ghost use Rattle.m2_parse.specs.Reading.{Gives, depth_fault};
+ghost use Rattle.m2_parse.specs.Reading.{Gives, depth_fault, until};
 ghost use Rattle.m2_parse.specs.ReadExpressions.{begins_factor as spec_begins_factor, begins_expr as spec_begins_expr};
 ghost use Rattle.m2_parse.specs.ReadExpressions.{begins_selector as spec_begins_selector, number_at, char_at};
 ghost use Rattle.m2_parse.specs.ReadExpressions.{string_at, next_factor_with, factors_with, term_with, next_term_with};
@@ -462,4 +462,19 @@ pub fn expr(alloc: Global, tokens: &mut Tokens, depth: usize) -> Result<Expr, Re
         right,
     };
     Ok(with_operator(alloc, first, next)?)
+}
+
+/// Expr, with a token of this kind behind it
+pub fn expr_until(
+    alloc: Global,
+    tokens: &mut Tokens,
+    depth: usize,
+    kind: TokenKind,
+) -> Result<Expr, ReadFault>
+    ensures { Gives (λ x. (expr_view x, tokens.new.list.now)) result
+        (until kind (expr_with (factor_at depth) tokens.old.list.now)) }
+{
+    let found = expr(alloc, tokens, depth)?;
+    tokens.expect(kind)?;
+    Ok(found)
 }

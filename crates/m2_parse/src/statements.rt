@@ -7,10 +7,10 @@ ghost use Rattle.m2_parse.specs.ReadStatements.{begins_statement as spec_begins_
 ghost use Rattle.m2_parse.specs.ReadStatements.{step_at, designated_at, optional_statement_with, statements_with};
 ghost use Rattle.m2_parse.specs.ReadStatements.{otherwise_with, if_arm_with, elsif_with, elsifs_with, if_with};
 ghost use Rattle.m2_parse.specs.ReadStatements.{arm_with, arms_with, case_with, while_with, repeat_with, loop_with};
-ghost use Rattle.m2_parse.specs.ReadStatements.{for_with, with_with, inner_statement as spec_inner_statement};
-ghost use Rattle.m2_parse.specs.ReadStatements.{statement_at};
+ghost use Rattle.m2_parse.specs.ReadStatements.{if_arms_with, limit_at, body_with, for_with, with_with};
+ghost use Rattle.m2_parse.specs.ReadStatements.{inner_statement as spec_inner_statement, statement_at};
 
-use crate::expressions::{actuals, begins_expr, designator, expr, labels, too_deep};
+use crate::expressions::{actuals, begins_expr, designator, expr, expr_until, labels, too_deep};
 use crate::faults::ReadFault;
 use crate::lists::{all_listed, listed, repeated};
 use crate::names::ident;
@@ -95,6 +95,21 @@ fn step(alloc: Global, tokens: &mut Tokens, depth: usize) -> Result<Option<Expr>
     };
     let by = expr(alloc, tokens, depth)?;
     Ok(Some(by))
+}
+
+/// TO Expr [BY Expr]
+fn limit(
+    alloc: Global,
+    tokens: &mut Tokens,
+    depth: usize,
+) -> Result<(Expr, Option<Expr>), ReadFault>
+    ensures { Gives (λ x. ((expr_view x.0, option_map expr_view x.1), tokens.new.list.now)) result
+        (limit_at depth tokens.old.list.now) }
+{
+    tokens.expect(TokenKind::To)?;
+    let last = expr(alloc, tokens, depth)?;
+    let by = step(alloc, tokens, depth)?;
+    Ok((last, by))
 }
 
 /// The statements after ELSE of an IF: none where there is no ELSE.
@@ -226,8 +241,7 @@ fn if_arm(alloc: Global, tokens: &mut Tokens, depth: usize) -> Result<IfArm, Rea
     ensures { Gives (λ x. (if_arm_view x, tokens.new.list.now)) result
         (if_arm_with depth (statement_at depth) tokens.old.list.now) }
 {
-    let test = expr(alloc, tokens, depth)?;
-    tokens.expect(TokenKind::Then)?;
+    let test = expr_until(alloc, tokens, depth, TokenKind::Then)?;
     let body = statements(alloc, tokens, depth)?;
     Ok(IfArm { test, body })
 }
@@ -258,6 +272,18 @@ fn elsifs(alloc: Global, tokens: &mut Tokens, depth: usize) -> Result<Vec<IfArm>
     )
 }
 
+/// Expr THEN Stmts {ELSIF Expr THEN Stmts}
+#[cycle(statements)]
+fn if_arms(alloc: Global, tokens: &mut Tokens, depth: usize) -> Result<Vec<IfArm>, ReadFault>
+    ensures { Gives (λ x. (map if_arm_view x.items, tokens.new.list.now)) result
+        (if_arms_with depth (statement_at depth) tokens.old.list.now) }
+{
+    let first = if_arm(alloc, tokens, depth)?;
+    let others = elsifs(alloc, tokens, depth)?;
+    let arms = with_first(alloc, first, others)?;
+    Ok(arms)
+}
+
 /// IF Expr THEN Stmts {ELSIF Expr THEN Stmts} [ELSE Stmts] END
 #[cycle(statements)]
 fn if_statement(alloc: Global, tokens: &mut Tokens, depth: usize) -> Result<Statement, ReadFault>
@@ -265,11 +291,9 @@ fn if_statement(alloc: Global, tokens: &mut Tokens, depth: usize) -> Result<Stat
         (if_with depth (statement_at depth) tokens.old.list.now) }
 {
     let word = tokens.expect(TokenKind::If)?;
-    let arm = if_arm(alloc, tokens, depth)?;
-    let others = elsifs(alloc, tokens, depth)?;
+    let arms = if_arms(alloc, tokens, depth)?;
     let other = otherwise(alloc, tokens, depth)?;
     tokens.expect(TokenKind::End)?;
-    let arms = with_first(alloc, arm, others)?;
     let other = other_statements(alloc, other);
     let form = StmtForm::If { arms, other };
     Ok(Statement { at: word.at, form })
@@ -308,13 +332,24 @@ fn case_statement(alloc: Global, tokens: &mut Tokens, depth: usize) -> Result<St
         (case_with depth (statement_at depth) tokens.old.list.now) }
 {
     let word = tokens.expect(TokenKind::Case)?;
-    let value = expr(alloc, tokens, depth)?;
-    tokens.expect(TokenKind::Of)?;
+    let value = expr_until(alloc, tokens, depth, TokenKind::Of)?;
     let arms = arms(alloc, tokens, depth)?;
     let other = otherwise(alloc, tokens, depth)?;
     tokens.expect(TokenKind::End)?;
     let form = StmtForm::Case { value, arms, other };
     Ok(Statement { at: word.at, form })
+}
+
+/// DO Stmts END
+#[cycle(statements)]
+fn body(alloc: Global, tokens: &mut Tokens, depth: usize) -> Result<Vec<Statement>, ReadFault>
+    ensures { Gives (λ x. (map statement_view x.items, tokens.new.list.now)) result
+        (body_with depth (statement_at depth) tokens.old.list.now) }
+{
+    tokens.expect(TokenKind::Do)?;
+    let found = statements(alloc, tokens, depth)?;
+    tokens.expect(TokenKind::End)?;
+    Ok(found)
 }
 
 /// WHILE Expr DO Stmts END
@@ -325,9 +360,7 @@ fn while_statement(alloc: Global, tokens: &mut Tokens, depth: usize) -> Result<S
 {
     let word = tokens.expect(TokenKind::While)?;
     let test = expr(alloc, tokens, depth)?;
-    tokens.expect(TokenKind::Do)?;
-    let body = statements(alloc, tokens, depth)?;
-    tokens.expect(TokenKind::End)?;
+    let body = body(alloc, tokens, depth)?;
     let form = StmtForm::While { test, body };
     Ok(Statement { at: word.at, form })
 }
@@ -373,12 +406,8 @@ fn for_statement(alloc: Global, tokens: &mut Tokens, depth: usize) -> Result<Sta
     let name = ident(tokens)?;
     tokens.expect(TokenKind::Becomes)?;
     let first = expr(alloc, tokens, depth)?;
-    tokens.expect(TokenKind::To)?;
-    let last = expr(alloc, tokens, depth)?;
-    let by = step(alloc, tokens, depth)?;
-    tokens.expect(TokenKind::Do)?;
-    let body = statements(alloc, tokens, depth)?;
-    tokens.expect(TokenKind::End)?;
+    let (last, by) = limit(alloc, tokens, depth)?;
+    let body = body(alloc, tokens, depth)?;
     let form = StmtForm::For {
         name,
         first,
@@ -397,9 +426,7 @@ fn with_statement(alloc: Global, tokens: &mut Tokens, depth: usize) -> Result<St
 {
     let word = tokens.expect(TokenKind::With)?;
     let of = designator(alloc, tokens, depth)?;
-    tokens.expect(TokenKind::Do)?;
-    let body = statements(alloc, tokens, depth)?;
-    tokens.expect(TokenKind::End)?;
+    let body = body(alloc, tokens, depth)?;
     let form = StmtForm::With { of, body };
     Ok(Statement { at: word.at, form })
 }

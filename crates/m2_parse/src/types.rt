@@ -13,7 +13,7 @@ ghost use Rattle.m2_parse.specs.ReadTypes.{case_fields_with, inner_field as spec
 ghost use Rattle.m2_parse.specs.ReadTypes.{set_of_with, pointer_with, proc_type_at, inner_type as spec_inner_type};
 ghost use Rattle.m2_parse.specs.ReadTypes.{type_at, field_at};
 
-use crate::expressions::{begins_expr, expr, labels, too_deep};
+use crate::expressions::{begins_expr, expr_until, labels, too_deep};
 use crate::faults::ReadFault;
 use crate::lists::{all_listed, listed};
 use crate::names::{ident, idents, qual};
@@ -144,10 +144,8 @@ fn range(alloc: Global, tokens: &mut Tokens, depth: usize) -> Result<(u32, Expr,
         (range_with (factor_at depth) tokens.old.list.now) }
 {
     let open = tokens.expect(TokenKind::LeftBracket)?;
-    let low = expr(alloc, tokens, depth)?;
-    tokens.expect(TokenKind::Ellipsis)?;
-    let high = expr(alloc, tokens, depth)?;
-    tokens.expect(TokenKind::RightBracket)?;
+    let low = expr_until(alloc, tokens, depth, TokenKind::Ellipsis)?;
+    let high = expr_until(alloc, tokens, depth, TokenKind::RightBracket)?;
     Ok((open.at, low, high))
 }
 

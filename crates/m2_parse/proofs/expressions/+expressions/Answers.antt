@@ -6,7 +6,7 @@ use Rattle.m2_base.specs.Views.{expr_view, label_view, selector_view, next_view}
 use Rattle.m2_base.proofs.Seen.{call_seen, deref_seen, designator_seen, expr_seen, field_seen, index_seen, label_made, name_seen, next_seen, one_seen, plain_set_seen, typed_set_seen}
 use Rattle.m2_parse.specs.ReadExpressions.{actuals_with, arguments_with, bracketed_with, designated_with, designator_with, elements_with, expr_with, first_term_with, label_with_upper, negated_with, next_factor_with, next_term_with, plain_set_with, relation_with, selection_with, selector_with, set_with, sum_with, term_with, upper_with}
 use Rattle.m2_parse.proofs.ListLemmas.{list_goes_on, list_ends, list_stops}
-use Rattle.m2_parse.proofs.Steps.{handed_on, fails}
+use Rattle.m2_parse.proofs.Steps.{handed_on, fails, fails_behind}
 use Rattle.m2_parse.proofs.expressions.+expressions.Goals as goal
 
 pub exprs-returns-in_default : goal.exprs-returns-in_default
@@ -98,7 +98,8 @@ terms-returns t c = repeat_is_done c.loop.invariant c.loop-test.false
 
 pub plain_set-returns-in_err-at : goal.plain_set-returns-in_err-at
 unfolding plain_set_with
-plain_set-returns-in_err-at t c = grind (arith, common_steps)
+plain_set-returns-in_err-at t c =
+    handed_on _ _ _ c.from_residual.result c.from_residual.ensures.1 (fails _ _ _ c.in_err-at.ensures)
 
 pub plain_set-returns : goal.plain_set-returns
 unfolding plain_set_with
@@ -106,15 +107,21 @@ plain_set-returns t c = grind (arith, common_steps, expr_seen, plain_set_seen)
 
 pub bracketed-returns-in_err-open : goal.bracketed-returns-in_err-open
 unfolding bracketed_with
-bracketed-returns-in_err-open t c = grind (arith, common_steps)
+bracketed-returns-in_err-open t c =
+    handed_on _ _ _ c.from_residual.result c.from_residual.ensures.1 (fails _ _ _ c.in_err-open.ensures.gives)
 
 pub bracketed-returns-in_err-inner : goal.bracketed-returns-in_err-inner
 unfolding bracketed_with
-bracketed-returns-in_err-inner t c = grind (arith, common_steps)
+bracketed-returns-in_err-inner t c =
+    handed_on _ _ _ c.from_residual-in_err-inner.result c.from_residual-in_err-inner.ensures.1
+    (fails_behind _ _ _ c.in_ok-open.ensures.gives (fails _ _ _ c.in_err-inner.ensures))
 
 pub bracketed-returns-in_err-expect : goal.bracketed-returns-in_err-expect
 unfolding bracketed_with
-bracketed-returns-in_err-expect t c = grind (arith, common_steps)
+bracketed-returns-in_err-expect t c =
+    handed_on _ _ _ c.from_residual-in_err-expect.result c.from_residual-in_err-expect.ensures.1
+    (fails_behind _ _ _ c.in_ok-open.ensures.gives (fails_behind _ _ _ c.in_ok-inner.ensures
+    (fails _ _ _ c.in_err-expect.ensures.gives)))
 
 pub bracketed-returns : goal.bracketed-returns
 unfolding bracketed_with
@@ -122,11 +129,14 @@ bracketed-returns t c = grind (arith, common_steps, expr_seen)
 
 pub negated-returns-in_err-not : goal.negated-returns-in_err-not
 unfolding negated_with
-negated-returns-in_err-not t c = grind (arith, common_steps)
+negated-returns-in_err-not t c =
+    handed_on _ _ _ c.from_residual.result c.from_residual.ensures.1 (fails _ _ _ c.in_err-not.ensures.gives)
 
 pub negated-returns-in_err-of : goal.negated-returns-in_err-of
 unfolding negated_with
-negated-returns-in_err-of t c = grind (arith, common_steps)
+negated-returns-in_err-of t c =
+    handed_on _ _ _ c.from_residual-in_err-of.result c.from_residual-in_err-of.ensures.1
+    (fails_behind _ _ _ c.in_ok-not.ensures.gives (fails _ _ _ c.in_err-of.ensures))
 
 pub negated-returns-in_err-new : goal.negated-returns-in_err-new
 unfolding negated_with
@@ -137,8 +147,9 @@ unfolding negated_with
 negated-returns t c = grind (arith, common_steps, expr_seen, one_seen)
 
 pub designated-returns-in_err-of : goal.designated-returns-in_err-of
-unfolding designated_with selection_with
-designated-returns-in_err-of t c = grind (arith, common_steps)
+unfolding designated_with
+designated-returns-in_err-of t c =
+    handed_on _ _ _ c.from_residual.result c.from_residual.ensures.1 (fails _ _ _ c.in_err-of.ensures)
 
 pub designated-returns-in_err-_at : goal.designated-returns-in_err-_at
 unfolding designated_with selection_with
@@ -161,8 +172,9 @@ unfolding designated_with selection_with
 designated-returns t c = grind (arith, common_steps, expr_seen, designator_seen, typed_set_seen, call_seen, name_seen)
 
 pub set-returns-in_err-open : goal.set-returns-in_err-open
-unfolding set_with elements_with
-set-returns-in_err-open t c = grind (arith, common_steps)
+unfolding set_with
+set-returns-in_err-open t c =
+    handed_on _ _ _ c.from_residual.result c.from_residual.ensures.1 (fails _ _ _ c.in_err-open.ensures.gives)
 
 pub set-returns-in_err-expect : goal.set-returns-in_err-expect
 unfolding set_with elements_with
@@ -185,8 +197,9 @@ unfolding set_with elements_with
 set-returns t c = grind (arith, common_steps)
 
 pub label-returns-in_err-low : goal.label-returns-in_err-low
-unfolding label_with_upper upper_with
-label-returns-in_err-low t c = grind (arith, common_steps)
+unfolding label_with_upper
+label-returns-in_err-low t c =
+    handed_on _ _ _ c.from_residual.result c.from_residual.ensures.1 (fails _ _ _ c.in_err-low.ensures)
 
 pub label-returns-in_default : goal.label-returns-in_default
 unfolding label_with_upper upper_with
@@ -201,8 +214,9 @@ unfolding label_with_upper upper_with
 label-returns t c = grind (arith, common_steps, label_made)
 
 pub actuals-returns-in_err-expect : goal.actuals-returns-in_err-expect
-unfolding actuals_with arguments_with
-actuals-returns-in_err-expect t c = grind (arith, common_steps)
+unfolding actuals_with
+actuals-returns-in_err-expect t c =
+    handed_on _ _ _ c.from_residual.result c.from_residual.ensures.1 (fails _ _ _ c.in_err-expect.ensures.gives)
 
 pub actuals-returns-in_err-expect-2 : goal.actuals-returns-in_err-expect-2
 unfolding actuals_with arguments_with
@@ -226,11 +240,14 @@ actuals-returns t c = grind (arith, common_steps)
 
 pub designator-returns-in_err-first : goal.designator-returns-in_err-first
 unfolding designator_with
-designator-returns-in_err-first t c = grind (arith, common_steps)
+designator-returns-in_err-first t c =
+    handed_on _ _ _ c.from_residual.result c.from_residual.ensures.1 (fails _ _ _ c.in_err-first.ensures)
 
 pub designator-returns-in_err-others : goal.designator-returns-in_err-others
 unfolding designator_with
-designator-returns-in_err-others t c = grind (arith, common_steps)
+designator-returns-in_err-others t c =
+    handed_on _ _ _ c.from_residual-in_err-others.result c.from_residual-in_err-others.ensures.1
+    (fails_behind _ _ _ c.in_ok-first.ensures (fails _ _ _ c.in_err-others.ensures))
 
 pub designator-returns : goal.designator-returns
 unfolding designator_with
@@ -266,11 +283,14 @@ selector-returns t c = grind (arith, common_steps, field_seen, index_seen, deref
 
 pub term-returns-in_err-first : goal.term-returns-in_err-first
 unfolding term_with
-term-returns-in_err-first t c = grind (arith, common_steps)
+term-returns-in_err-first t c =
+    handed_on _ _ _ c.from_residual.result c.from_residual.ensures.1 (fails _ _ _ c.in_err-first.ensures)
 
 pub term-returns-in_err-others : goal.term-returns-in_err-others
 unfolding term_with
-term-returns-in_err-others t c = grind (arith, common_steps)
+term-returns-in_err-others t c =
+    handed_on _ _ _ c.from_residual-in_err-others.result c.from_residual-in_err-others.ensures.1
+    (fails_behind _ _ _ c.in_ok-first.ensures (fails _ _ _ c.in_err-others.ensures))
 
 pub term-returns-in_err-with_operators : goal.term-returns-in_err-with_operators
 unfolding term_with
@@ -282,11 +302,14 @@ term-returns t c = grind (arith, common_steps)
 
 pub next_factor-returns-in_err-sign : goal.next_factor-returns-in_err-sign
 unfolding next_factor_with
-next_factor-returns-in_err-sign t c = grind (arith, common_steps)
+next_factor-returns-in_err-sign t c =
+    handed_on _ _ _ c.from_residual.result c.from_residual.ensures.1 (fails _ _ _ c.in_err-sign.ensures)
 
 pub next_factor-returns-in_err-right : goal.next_factor-returns-in_err-right
 unfolding next_factor_with
-next_factor-returns-in_err-right t c = grind (arith, common_steps)
+next_factor-returns-in_err-right t c =
+    handed_on _ _ _ c.from_residual-in_err-right.result c.from_residual-in_err-right.ensures.1
+    (fails_behind _ _ _ c.in_ok-sign.ensures (fails _ _ _ c.in_err-right.ensures))
 
 pub next_factor-returns : goal.next_factor-returns
 unfolding next_factor_with
@@ -314,11 +337,14 @@ first_term-returns t c = grind (arith, common_steps, expr_seen, one_seen)
 
 pub sum-returns-in_err-first : goal.sum-returns-in_err-first
 unfolding sum_with
-sum-returns-in_err-first t c = grind (arith, common_steps)
+sum-returns-in_err-first t c =
+    handed_on _ _ _ c.from_residual.result c.from_residual.ensures.1 (fails _ _ _ c.in_err-first.ensures)
 
 pub sum-returns-in_err-others : goal.sum-returns-in_err-others
 unfolding sum_with
-sum-returns-in_err-others t c = grind (arith, common_steps)
+sum-returns-in_err-others t c =
+    handed_on _ _ _ c.from_residual-in_err-others.result c.from_residual-in_err-others.ensures.1
+    (fails_behind _ _ _ c.in_ok-first.ensures (fails _ _ _ c.in_err-others.ensures))
 
 pub sum-returns-in_err-with_operators : goal.sum-returns-in_err-with_operators
 unfolding sum_with
@@ -330,19 +356,23 @@ sum-returns t c = grind (arith, common_steps)
 
 pub next_term-returns-in_err-sign : goal.next_term-returns-in_err-sign
 unfolding next_term_with
-next_term-returns-in_err-sign t c = grind (arith, common_steps)
+next_term-returns-in_err-sign t c =
+    handed_on _ _ _ c.from_residual.result c.from_residual.ensures.1 (fails _ _ _ c.in_err-sign.ensures)
 
 pub next_term-returns-in_err-right : goal.next_term-returns-in_err-right
 unfolding next_term_with
-next_term-returns-in_err-right t c = grind (arith, common_steps)
+next_term-returns-in_err-right t c =
+    handed_on _ _ _ c.from_residual-in_err-right.result c.from_residual-in_err-right.ensures.1
+    (fails_behind _ _ _ c.in_ok-sign.ensures (fails _ _ _ c.in_err-right.ensures))
 
 pub next_term-returns : goal.next_term-returns
 unfolding next_term_with
 next_term-returns t c = grind (arith, common_steps, next_seen)
 
 pub expr-returns-in_err-first : goal.expr-returns-in_err-first
-unfolding expr_with relation_with
-expr-returns-in_err-first t c = grind (arith, common_steps)
+unfolding expr_with
+expr-returns-in_err-first t c =
+    handed_on _ _ _ c.from_residual.result c.from_residual.ensures.1 (fails _ _ _ c.in_err-first.ensures)
 
 pub expr-returns-then-not-is_relation : goal.expr-returns-then-not-is_relation
 unfolding expr_with relation_with

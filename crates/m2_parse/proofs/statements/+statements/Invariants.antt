@@ -9,55 +9,61 @@ use Rattle.m2_parse.specs.ReadStatements.{statement_at, optional_statement_with,
 use Rattle.m2_parse.proofs.statements.+statements.Given as goal
 
 abbrev pub decreases-statement : goal.decreases-statement
-decreases-statement l = 8 * l.depth + 0
+decreases-statement l = 9 * l.depth + 0
 
 abbrev pub decreases-optional_statement : goal.decreases-optional_statement
-decreases-optional_statement l = 8 * l.depth + 1
+decreases-optional_statement l = 9 * l.depth + 1
 
 abbrev pub decreases-statements : goal.decreases-statements
-decreases-statements l = 8 * l.depth + 2
+decreases-statements l = 9 * l.depth + 2
 
 abbrev pub decreases-otherwise : goal.decreases-otherwise
-decreases-otherwise l = 8 * l.depth + 3
+decreases-otherwise l = 9 * l.depth + 3
 
 abbrev pub decreases-if_arm : goal.decreases-if_arm
-decreases-if_arm l = 8 * l.depth + 3
+decreases-if_arm l = 9 * l.depth + 3
 
 abbrev pub decreases-elsif : goal.decreases-elsif
-decreases-elsif l = 8 * l.depth + 4
+decreases-elsif l = 9 * l.depth + 4
 
 abbrev pub decreases-elsifs : goal.decreases-elsifs
-decreases-elsifs l = 8 * l.depth + 5
+decreases-elsifs l = 9 * l.depth + 5
+
+abbrev pub decreases-if_arms : goal.decreases-if_arms
+decreases-if_arms l = 9 * l.depth + 6
 
 abbrev pub decreases-if_statement : goal.decreases-if_statement
-decreases-if_statement l = 8 * l.depth + 6
+decreases-if_statement l = 9 * l.depth + 7
 
 abbrev pub decreases-arm : goal.decreases-arm
-decreases-arm l = 8 * l.depth + 3
+decreases-arm l = 9 * l.depth + 3
 
 abbrev pub decreases-arms : goal.decreases-arms
-decreases-arms l = 8 * l.depth + 4
+decreases-arms l = 9 * l.depth + 4
 
 abbrev pub decreases-case_statement : goal.decreases-case_statement
-decreases-case_statement l = 8 * l.depth + 5
+decreases-case_statement l = 9 * l.depth + 5
+
+abbrev pub decreases-body : goal.decreases-body
+decreases-body l = 9 * l.depth + 3
 
 abbrev pub decreases-while_statement : goal.decreases-while_statement
-decreases-while_statement l = 8 * l.depth + 3
+decreases-while_statement l = 9 * l.depth + 4
 
 abbrev pub decreases-repeat_statement : goal.decreases-repeat_statement
-decreases-repeat_statement l = 8 * l.depth + 3
+decreases-repeat_statement l = 9 * l.depth + 3
 
 abbrev pub decreases-loop_statement : goal.decreases-loop_statement
-decreases-loop_statement l = 8 * l.depth + 3
+decreases-loop_statement l = 9 * l.depth + 3
 
 abbrev pub decreases-for_statement : goal.decreases-for_statement
-decreases-for_statement l = 8 * l.depth + 3
+decreases-for_statement l = 9 * l.depth + 4
 
 abbrev pub decreases-with_statement : goal.decreases-with_statement
-decreases-with_statement l = 8 * l.depth + 3
+decreases-with_statement l = 9 * l.depth + 4
 
 abbrev pub decreases-inner_statement : goal.decreases-inner_statement
-decreases-inner_statement l = 8 * l.depth + 7
+decreases-inner_statement l = 9 * l.depth + 8
 
 abbrev pub invariant-statements-loop : goal.invariant-statements-loop
 invariant-statements-loop l =

@@ -6,7 +6,7 @@ use Rattle.m2_base.specs.Views.{field_list_view, variant_arm_view}
 use Rattle.m2_base.proofs.Seen.{array_seen, case_fields_seen, plain_fields_seen, pointer_seen, record_seen, type_seen, variant_arm_seen}
 use Rattle.m2_parse.specs.ReadTypes.{array_with, case_fields_with, optional_field_with, other_fields_with, plain_fields_with, pointer_with, record_with, variant_with}
 use Rattle.m2_parse.proofs.ListLemmas.{list_goes_on, list_ends, list_stops}
-use Rattle.m2_parse.proofs.Steps.{handed_on, fails}
+use Rattle.m2_parse.proofs.Steps.{handed_on, fails, fails_behind}
 use Rattle.m2_parse.proofs.types.+types.Goals as goal
 
 pub fields-returns-in_default : goal.fields-returns-in_default
@@ -53,19 +53,28 @@ variants-returns t c = separated_is_done c.loop.invariant c.loop-test.false
 
 pub array-returns-in_err-array : goal.array-returns-in_err-array
 unfolding array_with
-array-returns-in_err-array t c = grind (arith, common_steps)
+array-returns-in_err-array t c =
+    handed_on _ _ _ c.from_residual.result c.from_residual.ensures.1 (fails _ _ _ c.in_err-array.ensures.gives)
 
 pub array-returns-in_err-index : goal.array-returns-in_err-index
 unfolding array_with
-array-returns-in_err-index t c = grind (arith, common_steps)
+array-returns-in_err-index t c =
+    handed_on _ _ _ c.from_residual-in_err-index.result c.from_residual-in_err-index.ensures.1
+    (fails_behind _ _ _ c.in_ok-array.ensures.gives (fails _ _ _ c.in_err-index.ensures))
 
 pub array-returns-in_err-expect : goal.array-returns-in_err-expect
 unfolding array_with
-array-returns-in_err-expect t c = grind (arith, common_steps)
+array-returns-in_err-expect t c =
+    handed_on _ _ _ c.from_residual-in_err-expect.result c.from_residual-in_err-expect.ensures.1
+    (fails_behind _ _ _ c.in_ok-array.ensures.gives (fails_behind _ _ _ c.in_ok-index.ensures
+    (fails _ _ _ c.in_err-expect.ensures.gives)))
 
 pub array-returns-in_err-of : goal.array-returns-in_err-of
 unfolding array_with
-array-returns-in_err-of t c = grind (arith, common_steps)
+array-returns-in_err-of t c =
+    handed_on _ _ _ c.from_residual-in_err-of.result c.from_residual-in_err-of.ensures.1
+    (fails_behind _ _ _ c.in_ok-array.ensures.gives (fails_behind _ _ _ c.in_ok-index.ensures
+    (fails_behind _ _ _ c.in_ok-expect.ensures.gives (fails _ _ _ c.in_err-of.ensures))))
 
 pub array-returns-in_err-of-2 : goal.array-returns-in_err-of-2
 unfolding array_with
@@ -77,15 +86,21 @@ array-returns t c = grind (arith, common_steps, type_seen, array_seen)
 
 pub record_type-returns-in_err-record : goal.record_type-returns-in_err-record
 unfolding record_with
-record_type-returns-in_err-record t c = grind (arith, common_steps)
+record_type-returns-in_err-record t c =
+    handed_on _ _ _ c.from_residual.result c.from_residual.ensures.1 (fails _ _ _ c.in_err-record.ensures.gives)
 
 pub record_type-returns-in_err-list : goal.record_type-returns-in_err-list
 unfolding record_with
-record_type-returns-in_err-list t c = grind (arith, common_steps)
+record_type-returns-in_err-list t c =
+    handed_on _ _ _ c.from_residual-in_err-list.result c.from_residual-in_err-list.ensures.1
+    (fails_behind _ _ _ c.in_ok-record.ensures.gives (fails _ _ _ c.in_err-list.ensures))
 
 pub record_type-returns-in_err-expect : goal.record_type-returns-in_err-expect
 unfolding record_with
-record_type-returns-in_err-expect t c = grind (arith, common_steps)
+record_type-returns-in_err-expect t c =
+    handed_on _ _ _ c.from_residual-in_err-expect.result c.from_residual-in_err-expect.ensures.1
+    (fails_behind _ _ _ c.in_ok-record.ensures.gives (fails_behind _ _ _ c.in_ok-list.ensures
+    (fails _ _ _ c.in_err-expect.ensures.gives)))
 
 pub record_type-returns : goal.record_type-returns
 unfolding record_with
@@ -93,15 +108,21 @@ record_type-returns t c = grind (arith, common_steps, type_seen, record_seen)
 
 pub pointer-returns-in_err-pointer : goal.pointer-returns-in_err-pointer
 unfolding pointer_with
-pointer-returns-in_err-pointer t c = grind (arith, common_steps)
+pointer-returns-in_err-pointer t c =
+    handed_on _ _ _ c.from_residual.result c.from_residual.ensures.1 (fails _ _ _ c.in_err-pointer.ensures.gives)
 
 pub pointer-returns-in_err-expect : goal.pointer-returns-in_err-expect
 unfolding pointer_with
-pointer-returns-in_err-expect t c = grind (arith, common_steps)
+pointer-returns-in_err-expect t c =
+    handed_on _ _ _ c.from_residual-in_err-expect.result c.from_residual-in_err-expect.ensures.1
+    (fails_behind _ _ _ c.in_ok-pointer.ensures.gives (fails _ _ _ c.in_err-expect.ensures.gives))
 
 pub pointer-returns-in_err-of : goal.pointer-returns-in_err-of
 unfolding pointer_with
-pointer-returns-in_err-of t c = grind (arith, common_steps)
+pointer-returns-in_err-of t c =
+    handed_on _ _ _ c.from_residual-in_err-of.result c.from_residual-in_err-of.ensures.1
+    (fails_behind _ _ _ c.in_ok-pointer.ensures.gives (fails_behind _ _ _ c.in_ok-expect.ensures.gives
+    (fails _ _ _ c.in_err-of.ensures)))
 
 pub pointer-returns-in_err-new : goal.pointer-returns-in_err-new
 unfolding pointer_with
@@ -129,15 +150,21 @@ optional_field-returns t c = grind (arith, common_steps)
 
 pub plain_fields-returns-in_err-names : goal.plain_fields-returns-in_err-names
 unfolding plain_fields_with
-plain_fields-returns-in_err-names t c = grind (arith, common_steps)
+plain_fields-returns-in_err-names t c =
+    handed_on _ _ _ c.from_residual.result c.from_residual.ensures.1 (fails _ _ _ c.in_err-names.ensures)
 
 pub plain_fields-returns-in_err-expect : goal.plain_fields-returns-in_err-expect
 unfolding plain_fields_with
-plain_fields-returns-in_err-expect t c = grind (arith, common_steps)
+plain_fields-returns-in_err-expect t c =
+    handed_on _ _ _ c.from_residual-in_err-expect.result c.from_residual-in_err-expect.ensures.1
+    (fails_behind _ _ _ c.in_ok-names.ensures (fails _ _ _ c.in_err-expect.ensures.gives))
 
 pub plain_fields-returns-in_err-typ : goal.plain_fields-returns-in_err-typ
 unfolding plain_fields_with
-plain_fields-returns-in_err-typ t c = grind (arith, common_steps)
+plain_fields-returns-in_err-typ t c =
+    handed_on _ _ _ c.from_residual-in_err-typ.result c.from_residual-in_err-typ.ensures.1
+    (fails_behind _ _ _ c.in_ok-names.ensures (fails_behind _ _ _ c.in_ok-expect.ensures.gives
+    (fails _ _ _ c.in_err-typ.ensures)))
 
 pub plain_fields-returns : goal.plain_fields-returns
 unfolding plain_fields_with
@@ -145,35 +172,62 @@ plain_fields-returns t c = grind (arith, common_steps, plain_fields_seen)
 
 pub case_fields-returns-in_err-expect : goal.case_fields-returns-in_err-expect
 unfolding case_fields_with
-case_fields-returns-in_err-expect t c = grind (arith, common_steps)
+case_fields-returns-in_err-expect t c =
+    handed_on _ _ _ c.from_residual.result c.from_residual.ensures.1 (fails _ _ _ c.in_err-expect.ensures.gives)
 
 pub case_fields-returns-in_err-tag : goal.case_fields-returns-in_err-tag
 unfolding case_fields_with
-case_fields-returns-in_err-tag t c = grind (arith, common_steps)
+case_fields-returns-in_err-tag t c =
+    handed_on _ _ _ c.from_residual-in_err-tag.result c.from_residual-in_err-tag.ensures.1
+    (fails_behind _ _ _ c.in_ok-expect.ensures.gives (fails _ _ _ c.in_err-tag.ensures))
 
 pub case_fields-returns-in_err-expect-2 : goal.case_fields-returns-in_err-expect-2
 unfolding case_fields_with
-case_fields-returns-in_err-expect-2 t c = grind (arith, common_steps)
+case_fields-returns-in_err-expect-2 t c =
+    handed_on _ _ _ c.from_residual-in_err-expect-2.result c.from_residual-in_err-expect-2.ensures.1
+    (fails_behind _ _ _ c.in_ok-expect.ensures.gives (fails_behind _ _ _ c.in_ok-tag.ensures
+    (fails _ _ _ c.in_err-expect-2.ensures.gives)))
 
 pub case_fields-returns-in_err-of : goal.case_fields-returns-in_err-of
 unfolding case_fields_with
-case_fields-returns-in_err-of t c = grind (arith, common_steps)
+case_fields-returns-in_err-of t c =
+    handed_on _ _ _ c.from_residual-in_err-of.result c.from_residual-in_err-of.ensures.1
+    (fails_behind _ _ _ c.in_ok-expect.ensures.gives (fails_behind _ _ _ c.in_ok-tag.ensures
+    (fails_behind _ _ _ c.in_ok-expect-2.ensures.gives (fails _ _ _ c.in_err-of.ensures))))
 
 pub case_fields-returns-in_err-expect-3 : goal.case_fields-returns-in_err-expect-3
 unfolding case_fields_with
-case_fields-returns-in_err-expect-3 t c = grind (arith, common_steps)
+case_fields-returns-in_err-expect-3 t c =
+    handed_on _ _ _ c.from_residual-in_err-expect-3.result c.from_residual-in_err-expect-3.ensures.1
+    (fails_behind _ _ _ c.in_ok-expect.ensures.gives (fails_behind _ _ _ c.in_ok-tag.ensures
+    (fails_behind _ _ _ c.in_ok-expect-2.ensures.gives (fails_behind _ _ _ c.in_ok-of.ensures
+    (fails _ _ _ c.in_err-expect-3.ensures.gives)))))
 
 pub case_fields-returns-in_err-arms : goal.case_fields-returns-in_err-arms
 unfolding case_fields_with
-case_fields-returns-in_err-arms t c = grind (arith, common_steps)
+case_fields-returns-in_err-arms t c =
+    handed_on _ _ _ c.from_residual-in_err-arms.result c.from_residual-in_err-arms.ensures.1
+    (fails_behind _ _ _ c.in_ok-expect.ensures.gives (fails_behind _ _ _ c.in_ok-tag.ensures
+    (fails_behind _ _ _ c.in_ok-expect-2.ensures.gives (fails_behind _ _ _ c.in_ok-of.ensures
+    (fails_behind _ _ _ c.in_ok-expect-3.ensures.gives (fails _ _ _ c.in_err-arms.ensures))))))
 
 pub case_fields-returns-in_err-other : goal.case_fields-returns-in_err-other
 unfolding case_fields_with
-case_fields-returns-in_err-other t c = grind (arith, common_steps)
+case_fields-returns-in_err-other t c =
+    handed_on _ _ _ c.from_residual-in_err-other.result c.from_residual-in_err-other.ensures.1
+    (fails_behind _ _ _ c.in_ok-expect.ensures.gives (fails_behind _ _ _ c.in_ok-tag.ensures
+    (fails_behind _ _ _ c.in_ok-expect-2.ensures.gives (fails_behind _ _ _ c.in_ok-of.ensures
+    (fails_behind _ _ _ c.in_ok-expect-3.ensures.gives (fails_behind _ _ _ c.in_ok-arms.ensures
+    (fails _ _ _ c.in_err-other.ensures)))))))
 
 pub case_fields-returns-in_err-expect-4 : goal.case_fields-returns-in_err-expect-4
 unfolding case_fields_with
-case_fields-returns-in_err-expect-4 t c = grind (arith, common_steps)
+case_fields-returns-in_err-expect-4 t c =
+    handed_on _ _ _ c.from_residual-in_err-expect-4.result c.from_residual-in_err-expect-4.ensures.1
+    (fails_behind _ _ _ c.in_ok-expect.ensures.gives (fails_behind _ _ _ c.in_ok-tag.ensures
+    (fails_behind _ _ _ c.in_ok-expect-2.ensures.gives (fails_behind _ _ _ c.in_ok-of.ensures
+    (fails_behind _ _ _ c.in_ok-expect-3.ensures.gives (fails_behind _ _ _ c.in_ok-arms.ensures
+    (fails_behind _ _ _ c.in_ok-other.ensures (fails _ _ _ c.in_err-expect-4.ensures.gives))))))))
 
 pub case_fields-returns : goal.case_fields-returns
 unfolding case_fields_with
