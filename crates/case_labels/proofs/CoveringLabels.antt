@@ -2,7 +2,7 @@
 use Rattle.std.specs.List.{list_any}
 use Rattle.std.specs.Prelude.{◌≡◌, ℕ, ℤ, Bool, true, false, int_le, ◌&&◌, if◌then◌else◌, List, [], ◌∷◌, ◌++◌, is_some, map, Option, None, Some, Ok, option_map}
 use Rattle.std.specs.Option.{IfSome}
-use Rattle.std.proofs.Common.{refl, sym, ap, ◌∙◌, subst}
+use Rattle.std.proofs.Common.{refl, sym, ap, ◌∙◌, subst, true, None}
 use Rattle.std.proofs.Common.{append_assoc}
 use Rattle.std.proofs.lemmas.List.{append-nil}
 use Rattle.m2_base.specs.Gives.{Adds, Gives, and_then, gives}
@@ -75,6 +75,18 @@ pub values_some : (c : Context) (t : Place) (ends : Option Operand × Option Ope
 values_some c t (a, b) x y e f sound =
     sym (ap (λ (o : Option Operand). values_in c t (o, b)) e ∙ ap (λ (o : Option Operand). values_in c t (Some x, o)) f
     ∙ ap (λ (k : Bool). if k then Nothing else values_beside c t x y) sound)
+
+pub values_broken : (c : Context) (t : Place) (ends : Option Operand × Option Operand) (x y : Operand) → ends.0 ≡ Some x → ends.1 ≡ Some y → is_broken c.scene t ≡ true → Nothing ≡ values_in c t ends
+values_broken c t (a, b) x y e f broken =
+    sym (ap (λ (o : Option Operand). values_in c t (o, b)) e ∙ ap (λ (o : Option Operand). values_in c t (Some x, o)) f
+    ∙ ap (λ (k : Bool). if k then Nothing else values_beside c t x y) broken)
+
+-- an end that isn't constant
+pub values_no_low : (c : Context) (t : Place) (ends : Option Operand × Option Operand) → ends.0 ≡ None → Nothing ≡ values_in c t ends
+values_no_low c t (a, b) none = sym (ap (λ (o : Option Operand). values_in c t (o, b)) none)
+
+pub values_no_high : (c : Context) (t : Place) (ends : Option Operand × Option Operand) (x : Operand) → ends.0 ≡ Some x → ends.1 ≡ None → Nothing ≡ values_in c t ends
+values_no_high c t (a, b) x e none = sym (ap (λ (o : Option Operand). values_in c t (o, b)) e ∙ ap (λ (o : Option Operand). values_in c t (Some x, o)) none)
 
 pub told_as : {v w : LabelValues} (asked : Ask LabelValues) → WhereKnown asked (λ values. values ≡ v) → v ≡ w → WhereKnown asked (λ values. values ≡ w)
 told_as (Known values) h e = h ∙ e

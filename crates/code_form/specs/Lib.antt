@@ -1,4 +1,5 @@
 pub mod Instructions
+pub mod Lines
 pub mod Bytes
 pub mod Reading
 pub mod Heights

@@ -2,8 +2,10 @@
 ghost use Rattle.std.specs.Prelude.{◌≡◌, ◌≤◌, ◌↔◌, IsTrue};
 ghost use Rattle.code_form.specs.Bytes.{size as spec_size};
 ghost use Rattle.code_form.specs.Instructions.{IsInstr, line_of};
+ghost use Rattle.code_form.specs.Lines.{listed};
 
 use crate::effect::Effect;
+use crate::line::{Line, Operands, operands};
 use crate::operand::{Operand, operand};
 use crate::table::instructions;
 
@@ -79,23 +81,27 @@ macro_rules! name_arms {
     };
 }
 
-macro_rules! size_arms {
+macro_rules! line_arms {
     (($i:ident) $($code:literal $name:ident $(($($x:ident: $kind:ident),*))? => $effect:expr;)*) => {
         match $i {
-            $(Instr::$name $(($($x),*))? => 1 $($(+ operand!($kind *$x).width())*)?,)*
-        }
-    };
-}
-
-macro_rules! range_arms {
-    (($i:ident) $($code:literal $name:ident $(($($x:ident: $kind:ident),*))? => $effect:expr;)*) => {
-        match $i {
-            $(Instr::$name $(($($x),*))? => true $($(&& operand!($kind *$x).is_in_range())*)?,)*
+            $(Instr::$name $(($($x),*))? => Line {
+                opcode: $code,
+                operands: operands!($($(operand!($kind *$x)),*)?),
+            },)*
         }
     };
 }
 
 impl Instr {
+    /// Its line of the table.
+    #[inline(always)]
+    pub(crate) fn line(&self) -> Line
+        ensures opcode { result.opcode ≡ (line_of self.now).opcode }
+        ensures operands { listed result.operands ≡ (line_of self.now).operands }
+    {
+        instructions!(line_arms(self))
+    }
+
     /// What it does to the stack's height.
     #[inline(always)]
     pub fn effect(&self) -> Effect
@@ -117,13 +123,23 @@ impl Instr {
         ensures size { result ≡ spec_size self.now }
         ensures short { result ≤ 17 }
     {
-        instructions!(size_arms(self))
+        match self.line().operands {
+            Operands::Zero => 1,
+            Operands::One(a) => 1 + a.width(),
+            Operands::Two(a, b) => 1 + a.width() + b.width(),
+            Operands::Three(a, b, c) => 1 + a.width() + b.width() + c.width(),
+        }
     }
 
     /// Whether each of its operands is in the range of its kind, which `encode` asks for.
     pub fn has_valid_operands(&self) -> bool
         ensures { IsTrue result ↔ IsInstr self.now }
     {
-        instructions!(range_arms(self))
+        match self.line().operands {
+            Operands::Zero => true,
+            Operands::One(a) => a.is_in_range(),
+            Operands::Two(a, b) => a.is_in_range() && b.is_in_range(),
+            Operands::Three(a, b, c) => a.is_in_range() && b.is_in_range() && c.is_in_range(),
+        }
     }
 }

@@ -10,6 +10,7 @@
 mod effect;
 mod instr;
 mod laws;
+mod line;
 mod operand;
 mod read;
 mod table;

@@ -4,8 +4,8 @@ ghost use Rattle.code_form.specs.Instructions.{IsInstr};
 ghost use Rattle.code_form.specs.Bytes.{operand_bytes, all_bytes, spelling};
 
 use crate::instr::Instr;
-use crate::operand::{Operand, operand};
-use crate::table::instructions;
+use crate::line::Operands;
+use crate::operand::Operand;
 use m2_base::Memory;
 use std::alloc::AllocError;
 
@@ -37,20 +37,18 @@ fn put_line(out: &mut Vec<u8>, opcode: u8, operands: &[Operand]) -> Result<(), A
     Ok(())
 }
 
-macro_rules! write_arms {
-    (($i:ident, $out:ident) $($code:literal $name:ident $(($($x:ident: $kind:ident),*))? => $effect:expr;)*) => {
-        match $i {
-            $(Instr::$name $(($($x),*))? => put_line($out, $code, &[$($(operand!($kind *$x)),*)?]),)*
-        }
-    };
-}
-
 /// Appends the bytes of an instruction, or the first of them.
 fn spell(i: &Instr, out: &mut Vec<u8>) -> Result<(), AllocError>
     ensures ok { OnOk result (out.new.items ≡ out.old.items ++ spelling i.now) }
     ensures err { OnErr result (take (length out.old.items) out.new.items ≡ out.old.items) }
 {
-    instructions!(write_arms(i, out))
+    let line = i.line();
+    match line.operands {
+        Operands::Zero => put_line(out, line.opcode, &[]),
+        Operands::One(a) => put_line(out, line.opcode, &[a]),
+        Operands::Two(a, b) => put_line(out, line.opcode, &[a, b]),
+        Operands::Three(a, b, c) => put_line(out, line.opcode, &[a, b, c]),
+    }
 }
 
 /// Appends the bytes of an instruction.

@@ -56,3 +56,4 @@ pub mod TypeShapes
 pub mod TypeSizes
 pub mod Uses
 pub mod VariableLists
+pub mod EachShape

@@ -57,4 +57,5 @@ pub mod WholeTextChecks
 pub mod TypeLaws
 pub mod UnitTerms
 pub mod ValueBounds
+pub mod Without
 pub mod units

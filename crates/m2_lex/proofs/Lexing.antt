@@ -60,6 +60,11 @@ join R [] (y ∷ ys) us vs h k = absurd h
 join R (x ∷ xs) [] us vs h k = absurd h
 join R (x ∷ xs) (y ∷ ys) us vs h k = (h.0, join R xs ys us vs h.1 k)
 
+-- a lexeme adds one token at most
+pub adds_one : (names : List (List ℕ)) (p : Position) (lexeme : List ℕ) (old new : List Token) → AddsToken names p lexeme old new → length new ≤ length old + 1
+adds_one names p lexeme old new a =
+    omega (arith, ap length a.pushed, length-append old a.added, same_length (IsToken names) (placed_one p (length old) lexeme) a.added a.each, length-placed_one p (length old) lexeme)
+
 -- names keep their numbers
 
 means-kept : (names more : List (List ℕ)) (m : Meaning) (token : Token) → Means names m token → Means (names ++ more) m token

@@ -8,3 +8,4 @@ mod LongestSymbols
 pub mod ReadTokens
 pub mod SpelledNames
 pub mod TextUnit
+pub mod FaultLaws

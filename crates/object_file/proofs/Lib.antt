@@ -7,6 +7,7 @@ pub mod Linking
 pub mod Listings
 pub mod Walking
 pub mod Judging
+pub mod FieldSteps
 pub mod Finding
 pub mod Lengths
 pub mod OneTelling

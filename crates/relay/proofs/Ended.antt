@@ -78,6 +78,24 @@ module _ {A : Type 0} where
       (over_set ready done p (set old (p - 1) x) p y (let m = length-set old (p - 1) x in omega arith) (λ l. absurd (omega arith))
       (over_set ready done p old (p - 1) x (omega arith) (λ l. (on (get_or front (p - 1) d) x was step, over)) o))
 
+  -- what was told at the place after the front is there
+  pub told_ready : (ready : A → Type 0) (old front back : List A) (p : ℕ) (x y d : A) → old ≡ front ++ back → length front ≡ p → 0 < p → p < length old → ready y
+      → ready (get_or (set front (p - 1) x ++ set back 0 y) p d)
+  told_ready ready old front back p x y d cut long some there is =
+      subst ready (sym (ap (λ l. get_or l p d) (two_sets front back p x y long some ∙ ap (λ l. set (set l (p - 1) x) p y) (sym cut))
+      ∙ get_or-set_at (set old (p - 1) x) p p y d refl (let m = length-set old (p - 1) x in omega arith))) is
+
+  -- one more is over
+  pub over_more : (stays : A → A → Type 0) (ready : A → Type 0) (done : A → Bool) → ((job later : A) → ready job → stays job later → ready later)
+      → (xs : List A) (p : ℕ) (x d : A) → p < length xs → ready (get_or xs p d) → stays (get_or xs p d) x → AreOver ready done p xs → done x ≡ true
+      → AreOver ready done (p + 1) (set xs p x)
+  over_more stays ready done on xs p x d there was step o over = record {
+    are_ready = λ k e l. dite (ℕ_discrete k p) (λ is. subst ready (sym (get_or-set_at xs p k x e is there)) (on (get_or xs p d) x was step))
+        (λ n. subst ready (sym (get_or-set_other xs p k x e n)) (o.are_ready k e (omega arith)));
+    are_done = λ k e l. dite (ℕ_discrete k p) (λ is. ap done (get_or-set_at xs p k x e is there) ∙ over)
+        (λ n. ap done (get_or-set_other xs p k x e n) ∙ o.are_done k e (omega arith));
+  }
+
   -- the numbers of two jobs that follow on one another
   pub next_number : (number : A → ℕ) (old front back : List A) (p : ℕ) (d o : A) → map number old ≡ numbers_to (length old) → old ≡ front ++ back → length front ≡ p → 0 < p
       → p < length old → number (get_or back 0 o) ≡ number (get_or front (p - 1) d) + 1

@@ -17,7 +17,7 @@ use Rattle.m2_base.specs.States.{Setting, Frame, IsLater, mark_of}
 use Rattle.m2_base.specs.Scopes.{CanEnter, Entered, CanComplete, Completed}
 use Rattle.m2_base.proofs.Kept.{IsPrefixOf-refl, IsLater-refl}
 use Rattle.scope_core.specs.Kept.{TableWithRoom, tables_in, rooms_in, with_rows, completed}
-use Rattle.scope_core.specs.PlainScopes.{Plain, state_of, IsBegun, IsSoundly, IsHoused, filled, closed, first_tables, standard_table, started}
+use Rattle.scope_core.specs.PlainScopes.{Plain, state_of, IsBegun, IsSoundly, IsHoused, filled, closed, first_tables, standard_table, started, moved}
 
 -- what holds of each table and of the new one holds of each afterwards
 pub set_each : (P : ℕ → Table → Type 0) (tables : List Table) (s : ℕ) (t : Table) → s < length tables → ((k : ℕ) → P k (table_at tables k)) → P s t → (k : ℕ) → P k (table_at (set tables s t) k)
@@ -211,3 +211,21 @@ pub started_housed : (texts : UnitTexts) (sizes : List ℕ) (kept : List TableWi
 started_housed texts sizes kept unit several narrow tables rooms =
     subst (λ t. IsHoused (record { texts = texts; tables = t; areas = sizes; fills = 1 }) (rooms_in kept)) (sym tables)
     (record { sound = started_sound texts sizes unit several; room = rooms; narrow = narrow })
+
+-- another scope that has an area is filled
+pub moved_housed : (p : Plain) (s : ℕ) (rooms : List ℕ) → IsHoused p rooms → s < length p.areas → IsHoused (moved p s) rooms
+moved_housed p s rooms h there =
+    let sound = h.sound in
+    record {
+      sound = record {
+        inside = subst (λ n. s < n) sound.sizes there;
+        sizes = sound.sizes;
+        zero_complete = sound.zero_complete;
+        small = sound.small;
+        once = sound.once;
+        formed = sound.formed;
+        told = sound.told;
+      };
+      room = h.room;
+      narrow = h.narrow;
+    }

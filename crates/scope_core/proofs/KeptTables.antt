@@ -1,9 +1,10 @@
 -- tables and rooms of what the code keeps
-use Rattle.std.proofs.Common.{◌≡◌, ℕ, ◌<◌, ◌≤◌, ◌+◌, ◌^◌, List, [], ◌∷◌, ◌++◌, length, get_or, refl, sym, ◌∙◌, ap, subst, arith, suc, zero, replicate, lit<, length-append}
+use Rattle.std.proofs.Common.{◌≡◌, ℕ, ◌<◌, ◌≤◌, ◌+◌, ◌^◌, List, [], ◌∷◌, ◌++◌, length, get_or, refl, sym, ◌∙◌, ap, subst, arith, suc, zero, replicate, lit<, length-append, Option}
+use Rattle.std.specs.Prelude.{slice_get}
 use Rattle.std.proofs.Math.ListN.{set}
-use Rattle.std.proofs.lemmas.List.{map-set, map-append}
+use Rattle.std.proofs.lemmas.List.{length-map, map-set, map-append}
 use Rattle.m2_base.specs.declared.rows.Row.{Row}
-use Rattle.m2_base.specs.Tables.{Table, table_at, no_rows}
+use Rattle.m2_base.specs.Tables.{Table, fetched_or, table_at, no_rows}
 use Rattle.scope_core.specs.Kept.{TableWithRoom, tables_in, rooms_in, longer, with_rows}
 
 pub at_kept : (kept : List TableWithRoom) (i : ℕ) (d : TableWithRoom) → i < length kept → table_at (tables_in kept) i ≡ (get_or kept i d).table
@@ -62,6 +63,13 @@ replicate-suc (suc n) x =
     let same : suc n + 1 ≡ suc (n + 1) = omega arith in
     rw same (ap (λ t. x ∷ t) (replicate-suc n x))
 
+-- one more scope with no rows
+pub empty_more : (kept all : List TableWithRoom) (k : TableWithRoom) (n : ℕ) → all ≡ kept ++ k ∷ [] → tables_in kept ≡ replicate n no_rows → k.table ≡ no_rows
+    → tables_in all ≡ replicate (n + 1) no_rows
+empty_more kept all k n is empty none =
+    ap tables_in is ∙ map-append (λ s. s.table) kept (k ∷ []) ∙ ap (λ t. tables_in kept ++ t ∷ []) none ∙ ap (λ t. t ++ no_rows ∷ []) empty
+    ∙ replicate-suc n no_rows
+
 more_rooms : (sizes : List ℕ) (kept : List TableWithRoom) (size : ℕ) (k : TableWithRoom) → length kept ≡ length sizes → ((s : ℕ) → get_or sizes s 0 ≤ get_or (rooms_in kept) s 0) → size ≤ k.room → (s : ℕ) → get_or (sizes ++ size ∷ []) s 0 ≤ get_or (rooms_in (kept ++ k ∷ [])) s 0
 more_rooms [] [] size k count rooms le zero = le
 more_rooms [] [] size k count rooms le (suc s) = omega arith
@@ -82,3 +90,19 @@ HaveRooms-more sizes kept size k h none le =
           ∙ replicate-suc (length sizes) no_rows ∙ ap (λ n. replicate n no_rows) (sym (length-append sizes (size ∷ [])));
       rooms = more_rooms sizes kept size k h.count h.rooms le;
     }
+
+-- a scope of a table is there in what was lent
+pub within_lent : (kept lent : List TableWithRoom) (s : ℕ) → lent ≡ kept → s < length (tables_in kept) → s < length lent
+within_lent kept lent s is there = subst (λ n. s < n) (sym (ap length is ∙ sym (length-map kept (λ k. k.table)))) there
+
+-- a scope that has an area is there in what was lent
+pub lent_there : (kept lent : List TableWithRoom) (areas : List ℕ) (s : ℕ) → lent ≡ kept → length areas ≡ length (tables_in kept) → s < length areas → s < length lent
+lent_there kept lent areas s is sizes there = within_lent kept lent s is (subst (λ n. s < n) sizes there)
+
+-- a row that is kept is that of one thread
+pub row_kept : (kept : List TableWithRoom) (i ordinal : ℕ) (d : TableWithRoom) (o : Option Row) → i < length kept → d ≡ get_or kept i d
+    → o ≡ slice_get d.table.rows ordinal
+    → fetched_or i d.table o ≡ fetched_or i (table_at (tables_in kept) i) (slice_get (table_at (tables_in kept) i).rows ordinal)
+row_kept kept i ordinal d o there is e =
+    let same = at_kept kept i d there ∙ ap (λ k. k.table) (sym is) in
+    ap (fetched_or i d.table) e ∙ ap (λ t. fetched_or i t (slice_get t.rows ordinal)) (sym same)

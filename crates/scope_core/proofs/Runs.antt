@@ -1,5 +1,6 @@
 -- a run that has happened in part
 use Rattle.std.proofs.Common.{◌≡◌, ℕ, ◌<◌, ◌≤◌, ◌+◌, ◌^◌, List, [], ◌∷◌, ◌++◌, length, refl, sym, ◌∙◌, ap, subst, arith, append_assoc, length-append, get_or-set_same}
+use Rattle.std.proofs.lemmas.List.{append-nil}
 use Rattle.m2_base.specs.declared.rows.Row.{Row}
 use Rattle.m2_base.specs.Tables.{Table, table_at, one_thread, no_rows}
 use Rattle.scope_core.specs.declared.event.Event.{Event}
@@ -58,3 +59,12 @@ enter_countable tables s rows within countable =
     let at : table_at (with_rows tables s rows) s ≡ t = get_or-set_same tables s t no_rows within in
     let few = subst (λ (u : Table). length u.rows < 2 ^ 32) at (countable s) in
     omega (arith, few, length-append (table_at tables s).rows rows)
+
+-- where no event is left, all have happened
+pub part_all : (before tables : List Table) (whole rest : List Event) → Part before tables whole rest → length rest ≡ 0 → tables ≡ after_all before whole
+part_all before tables whole rest part none =
+    part.tables_are ∙ ap (after_all before) (sym (append-nil part.done) ∙ ap (λ l. part.done ++ l) (sym (nothing rest none)) ∙ part.joined)
+  where
+    nothing : (l : List Event) → length l ≡ 0 → l ≡ []
+    nothing [] e = refl
+    nothing (x ∷ l) e = absurd (omega arith)

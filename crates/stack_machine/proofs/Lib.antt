@@ -16,3 +16,4 @@ pub mod Loaded
 pub mod Placing
 pub mod Starting
 pub mod Growing
+pub mod Pushing

@@ -1,14 +1,13 @@
 -- Taking bytes one by one.
-use Rattle.std.proofs.Common.{◌≡◌, ◌≢◌, ℕ, zero, suc, ◌+◌, ◌-◌, ◌*◌, ◌<◌, ◌≤◌, Bool, true, false, cond, List, [], ◌∷◌, ◌++◌, length, take, drop, min, Option, Some, None, refl, sym, ap, ◌∙◌, subst, arith, append_assoc, eqb}
-use Rattle.std.specs.Prelude.{slice_get, IfSome, unwrap_or, ◌||◌}
-use Rattle.std.specs.Option.{option_to_list}
+use Rattle.std.proofs.Common.{◌≡◌, ◌≢◌, ℕ, zero, suc, ◌+◌, ◌-◌, ◌*◌, Bool, true, false, cond, List, [], ◌∷◌, ◌++◌, length, take, drop, min, Option, Some, None, refl, sym, ap, ◌∙◌, subst, arith, append_assoc, eqb}
+use Rattle.std.specs.Prelude.{slice_get, IfSome, ◌||◌, Result, Ok, Err, OnErr}
 use Rattle.std.proofs.lemmas.List.{length-append, length-drop, append-nil}
 use Rattle.std.proofs.lemmas.Bool.{false≢true}
 use Rattle.stack_machine.specs.declared.reading.Ahead.{Ahead}
 use Rattle.stack_machine.specs.declared.op.Kind.{Kind}
 use Rattle.stack_machine.specs.declared.op.Kind.TheVariants.{Integer, Cardinal}
 use Rattle.stack_machine.specs.InOut.{number_from, is_sign, is_digit, is_negative, behind, front, behind_sign}
-use Rattle.stack_machine.specs.Readings.{Taken, Moves, IsOver, coming, window, budget, next_is, most, number_by, number_after, sign_at, digit_at, Passed, Signed, Digits}
+use Rattle.stack_machine.specs.Readings.{Taken, Moves, IsOver, coming, window, next_is, most, number_by, number_after, sign_at, digit_at, Passed, Signed, Digits}
 
 abbrev nil : List ℕ
 nil = []
@@ -307,3 +306,8 @@ sign_fails a (Some l) new t = λ over. t
 pub passed_there : (test : ℕ → Bool) (byte : Option ℕ) → next_is test byte ≡ true → byte ≢ None
 passed_there test None e = absurd (false≢true e)
 passed_there test (Some b) e = λ n. some_none b n
+
+-- what holds anyway holds where memory or reading failed
+pub on_err : {T E : Type 0} (r : Result T E) (P : Type 0) → P → OnErr r P
+on_err (Ok t) P h = tt
+on_err (Err e) P h = h

@@ -136,6 +136,16 @@ can_rest f s xs same suits =
 pub rest_of : (s : Site) (xs : List ℕ) → xs ≡ s.around.now.chain → take (length xs - 1) (drop 1 xs) ≡ drop 1 s.around.now.chain
 rest_of s xs same = rest_whole xs ∙ ap (drop 1) same
 
+-- the own scope alone
+pub can_own : (f : Frame) (s : Site) → SuitsSite f s → CanLook f (s.around.now.scope ∷ [])
+can_own f s suits =
+    let fills = suits.around.fills in
+    record { short = omega arith; inner = (omega (arith, fills), tt); settled = inl (ap (λ k. k ∷ []) fills) }
+
+-- one scope before it
+pub can_before : (f : Frame) (s : ℕ) → s < f.setting.fills → CanLook f (s ∷ [])
+can_before f s below = record { short = omega arith; inner = (omega (arith, below), tt); settled = inr (λ on. absurd (below_not f.setting.fills (s ∷ []) (below, tt) on)) }
+
 -- the whole chain, where the own scope is complete
 pub can_whole : (f : Frame) (s : Site) (xs : List ℕ) → xs ≡ s.around.now.chain → s.item ≡ None → SuitsSite f s → CanLook f xs
 can_whole f s xs same none suits =

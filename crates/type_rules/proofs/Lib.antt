@@ -9,4 +9,6 @@ pub mod Fields
 pub mod Compatibles
 pub mod Binding
 pub mod Naming
+pub mod Outcomes
+pub mod Otherwise
 pub mod Procedures

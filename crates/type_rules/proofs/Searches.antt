@@ -26,6 +26,7 @@ use Rattle.m2_base.proofs.RowLaws.{HasSmallNumbers-fits}
 use Rattle.type_rules.specs.Asks.{Reads}
 use Rattle.type_rules.specs.Scenes.{Agrees, AreInHand, Hand, IsRowOf, NamesNoType, Suits, rows_of}
 use Rattle.type_rules.specs.Sites.{CanLook, Looked, IsLookFor}
+use Rattle.type_rules.specs.Standing.{StopsSearch}
 use Rattle.type_rules.proofs.Counting.{below_or_same, counted_below, counted_closed, counted_own}
 
 -- ** The first row of a name
@@ -302,8 +303,19 @@ last_of (Some xs) (Some ys) look P grows p = (xs, look, grows, p)
 last_of None (Some ys) look P grows p = absurd grows
 last_of (Some xs) None look P grows p = absurd grows
 
+pub last_searched : (old new : State) (at name s : ℕ) (chain : List ℕ) (reply : Reply) → Searched old new at (s ∷ chain) name reply → WhereLast new.looks (IsLookFor at name (s ∷ chain) reply)
+last_searched old new at name s chain reply searched =
+    let look : Look = record { at = at; name = name; chain = s ∷ chain; heads = searched.heads; reply = reply } in
+    last_of old.looks new.looks look (IsLookFor at name (s ∷ chain) reply) searched.keeps.grows (record { at_is = refl; name_is = refl; chain_is = refl; replied = refl })
+
 pub last_look : (old new : State) (at name : ℕ) (chain : List ℕ) (head : Head) → Searched old new at chain name (DontKnowYet head) → WhereLast new.looks (IsLookFor at name chain (DontKnowYet head))
 last_look old new at name [] head searched = absurd searched.says.on
-last_look old new at name (s ∷ chain) head searched =
-    let look : Look = record { at = at; name = name; chain = s ∷ chain; heads = searched.heads; reply = DontKnowYet head } in
-    last_of old.looks new.looks look (IsLookFor at name (s ∷ chain) (DontKnowYet head)) searched.keeps.grows (record { at_is = refl; name_is = refl; chain_is = refl; replied = refl })
+last_look old new at name (s ∷ chain) head searched = last_searched old new at name s chain (DontKnowYet head) searched
+
+-- the search in the module's scope alone
+pub stops_search : (old new : State) (home name : ℕ) (head : Head) → Searched old new 0 (home ∷ []) name (DontKnowYet head) → StopsSearch new home name head
+stops_search old new home name head searched =
+    record {
+      on = elim searched.says.on as (λ _. head.scope ≡ home) [ inl e ↦ e | inr e ↦ absurd e ];
+      asked = last_searched old new 0 name home [] (DontKnowYet head) searched;
+    }

@@ -19,20 +19,11 @@ range_of-requires-clause-suits g c = Suits_read c.in-Known.ensures.reads c.requi
 pub range_of-requires-clause-there : goal.range_of-requires-clause-there
 range_of-requires-clause-there g c = IsThere_read c.in-Known.ensures.reads (rw c.in-Ok.is at c.in-Known.ensures.there)
 
-pub returns-in-DontKnowYet-range_of-clause-reads : goal.returns-in-DontKnowYet-range_of-clause-reads
-returns-in-DontKnowYet-range_of-clause-reads g c = Reads-trans c.in-Known.ensures.reads c.in-DontKnowYet-range_of.ensures.reads
-
-pub returns-in-DontKnowYet-range_of-clause-waits : goal.returns-in-DontKnowYet-range_of-clause-waits
-returns-in-DontKnowYet-range_of-clause-waits g c = Waits_read c.in-Known.ensures.reads c.in-DontKnowYet-range_of.ensures.waits
-
 pub returns-in-Least-clause-reads : goal.returns-in-Least-clause-reads
 returns-in-Least-clause-reads g c = Reads-trans c.in-Known.ensures.reads c.in-Known-range_of.ensures.reads
 
 pub returns-in-Greatest-clause-reads : goal.returns-in-Greatest-clause-reads
 returns-in-Greatest-clause-reads g c = Reads-trans c.in-Known.ensures.reads c.in-Known-range_of.ensures.reads
-
-pub returns-in-None-clause-reads : goal.returns-in-None-clause-reads
-returns-in-None-clause-reads g c = Reads-trans c.in-Known.ensures.reads c.in-Known-range_of.ensures.reads
 
 pub returns-in-Least-clause-told : goal.returns-in-Least-clause-told
 returns-in-Least-clause-told g c made in_hand told =
@@ -58,19 +49,56 @@ returns-in-Greatest-clause-told g c made in_hand told =
     ∙ ap (λ v. gives (end_value now c.in-Ok.of (end_in c.args.extreme) (option_map (λ ends. range ends.0 ends.1) v))) (sym c.in-Some.is)
     ∙ end_given now c.in-Ok.of (end_in c.args.extreme) _ _ ends ((rw c.in-Ok.is at c.in-Known.ensures.told) made in_hand told)
 
-pub returns-in-None-clause-told : goal.returns-in-None-clause-told
-returns-in-None-clause-told g c made in_hand told =
-    let f = (g.S.Scopes.state c.args.scopes.now).frame in
-    let s = c.args.site.now in
-    let now = context_of f made s in
-    let ends = told_first _ f _ (λ h rows. range_of (context_of h rows s).scene c.in-Ok.of) c.in-Known.ensures.reads.keeps.frame c.in-Known-range_of.ensures.told made in_hand told in
-    ap (λ v. gives (end_value now c.in-Ok.of (end_in c.args.extreme) (option_map (λ ends. range ends.0 ends.1) v))) (sym c.in-None.is)
-    ∙ end_given now c.in-Ok.of (end_in c.args.extreme) _ _ ends ((rw c.in-Ok.is at c.in-Known.ensures.told) made in_hand told)
+pub ordinal_type_argument-requires : goal.ordinal_type_argument-requires
+ordinal_type_argument-requires g c = record { suits = c.requires.suits; x = c.requires.x }
 
-pub returns-in-Err-clause-told : goal.returns-in-Err-clause-told
-returns-in-Err-clause-told g c made in_hand told =
-    let f = (g.S.Scopes.state c.args.scopes.now).frame in
-    let s = c.args.site.now in
-    let now = context_of f made s in
-    end_refused f made s c.requires.suits told c.in-Err.fault (end_in c.args.extreme)
-    ∙ ap (λ t. and_then t (λ of. gives (end_value now of (end_in c.args.extreme) (range_of now.scene of)))) ((rw c.in-Err.is at c.in-Known.ensures.told) made in_hand told)
+pub returns-in-DontKnowYet : goal.returns-in-DontKnowYet
+returns-in-DontKnowYet g c =
+    record {
+      reads = c.in-DontKnowYet.ensures.reads;
+      waits = c.in-DontKnowYet.ensures.waits;
+      told = λ made in_hand told. tt;
+      there = tt;
+    }
+
+pub returns-in-DontKnowYet-range_of : goal.returns-in-DontKnowYet-range_of
+returns-in-DontKnowYet-range_of g c =
+    record {
+      reads = Reads-trans c.in-Known.ensures.reads c.in-DontKnowYet-range_of.ensures.reads;
+      waits = Waits_read c.in-Known.ensures.reads c.in-DontKnowYet-range_of.ensures.waits;
+      told = λ made in_hand told. tt;
+      there = tt;
+    }
+
+pub returns-in-Err : goal.returns-in-Err
+returns-in-Err g c =
+    record {
+      reads = c.in-Known.ensures.reads;
+      waits = tt;
+      told = λ made in_hand told. (let f = (g.S.Scopes.state c.args.scopes.now).frame in
+          let s = c.args.site.now in
+          let now = context_of f made s in
+          end_refused f made s c.requires.suits told c.in-Err.fault (end_in c.args.extreme)
+          ∙ ap (λ t. and_then t (λ of. gives (end_value now of (end_in c.args.extreme) (range_of now.scene of)))) ((rw c.in-Err.is at c.in-Known.ensures.told) made in_hand told));
+      there = tt;
+    }
+
+pub returns-in-Least-clause-waits : goal.returns-in-Least-clause-waits
+returns-in-Least-clause-waits g c = tt
+
+pub returns-in-Greatest-clause-waits : goal.returns-in-Greatest-clause-waits
+returns-in-Greatest-clause-waits g c = tt
+
+pub returns-in-None : goal.returns-in-None
+returns-in-None g c =
+    record {
+      reads = Reads-trans c.in-Known.ensures.reads c.in-Known-range_of.ensures.reads;
+      waits = tt;
+      told = λ made in_hand told. (let f = (g.S.Scopes.state c.args.scopes.now).frame in
+          let s = c.args.site.now in
+          let now = context_of f made s in
+          let ends = told_first _ f _ (λ h rows. range_of (context_of h rows s).scene c.in-Ok.of) c.in-Known.ensures.reads.keeps.frame c.in-Known-range_of.ensures.told made in_hand told in
+          ap (λ v. gives (end_value now c.in-Ok.of (end_in c.args.extreme) (option_map (λ ends. range ends.0 ends.1) v))) (sym c.in-None.is)
+          ∙ end_given now c.in-Ok.of (end_in c.args.extreme) _ _ ends ((rw c.in-Ok.is at c.in-Known.ensures.told) made in_hand told));
+      there = tt;
+    }

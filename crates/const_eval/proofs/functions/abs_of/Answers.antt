@@ -22,12 +22,6 @@ base_of-requires-clause-there g c =
     subst (λ (t : Place). IsThere (g.S.Scopes.state c.number_argument.new.scopes).frame t) (sym c.operand_type.ensures)
     (type_there (Suits_read c.in-Known.ensures.reads c.requires.suits.around) c.in-Ok.x (IsOperand_read c.in-Ok.x c.in-Known.ensures.reads (rw c.in-Ok.is at c.in-Known.ensures.there)))
 
-pub returns-in-DontKnowYet-base_of-clause-reads : goal.returns-in-DontKnowYet-base_of-clause-reads
-returns-in-DontKnowYet-base_of-clause-reads g c = Reads-trans c.in-Known.ensures.reads c.in-DontKnowYet-base_of.ensures.reads
-
-pub returns-in-DontKnowYet-base_of-clause-waits : goal.returns-in-DontKnowYet-base_of-clause-waits
-returns-in-DontKnowYet-base_of-clause-waits g c = Waits_read c.in-Known.ensures.reads c.in-DontKnowYet-base_of.ensures.waits
-
 pub absolute-requires : goal.absolute-requires
 absolute-requires g c = small_constant (g.S.Scopes.state c.args.scopes.now).frame c.in-Ok.x (rw c.in-Ok.is at c.in-Known.ensures.there)
 
@@ -45,7 +39,45 @@ returns-clause-told g c made in_hand told =
     (c.number_type.ensures ∙ ap number_type (c.number_kind.ensures ∙ ap number_kind (base ∙ ap (base_of now.scene) c.operand_type.ensures)))
     ∙ after_ok _ c.in-Ok.x (λ v. absolute now c.args.at (number_type (number_kind (base_type now v))) v) ((rw c.in-Ok.is at c.in-Known.ensures.told) made in_hand told)
 
-pub returns-in-Err-clause-told : goal.returns-in-Err-clause-told
-returns-in-Err-clause-told g c made in_hand told =
-    let now = context_of (g.S.Scopes.state c.args.scopes.now).frame made c.args.site.now in
-    ap (λ t. and_then t (λ v. absolute now c.args.at (number_type (number_kind (base_type now v))) v)) ((rw c.in-Err.is at c.in-Known.ensures.told) made in_hand told)
+pub number_argument-requires : goal.number_argument-requires
+number_argument-requires g c = record { suits = c.requires.suits; x = c.requires.x }
+
+pub operand_type-requires : goal.operand_type-requires
+operand_type-requires g c = tt
+
+pub returns-in-DontKnowYet : goal.returns-in-DontKnowYet
+returns-in-DontKnowYet g c =
+    record {
+      reads = c.in-DontKnowYet.ensures.reads;
+      waits = c.in-DontKnowYet.ensures.waits;
+      told = λ made in_hand told. tt;
+      there = tt;
+    }
+
+pub returns-in-DontKnowYet-base_of : goal.returns-in-DontKnowYet-base_of
+returns-in-DontKnowYet-base_of g c =
+    record {
+      reads = Reads-trans c.in-Known.ensures.reads c.in-DontKnowYet-base_of.ensures.reads;
+      waits = Waits_read c.in-Known.ensures.reads c.in-DontKnowYet-base_of.ensures.waits;
+      told = λ made in_hand told. tt;
+      there = tt;
+    }
+
+pub returns-in-Err : goal.returns-in-Err
+returns-in-Err g c =
+    record {
+      reads = c.in-Known.ensures.reads;
+      waits = tt;
+      told = λ made in_hand told. (let now = context_of (g.S.Scopes.state c.args.scopes.now).frame made c.args.site.now in
+          ap (λ t. and_then t (λ v. absolute now c.args.at (number_type (number_kind (base_type now v))) v)) ((rw c.in-Err.is at c.in-Known.ensures.told) made in_hand told));
+      there = tt;
+    }
+
+pub returns-clause-waits : goal.returns-clause-waits
+returns-clause-waits g c = tt
+
+pub number_kind-requires : goal.number_kind-requires
+number_kind-requires g c = tt
+
+pub number_type-requires : goal.number_type-requires
+number_type-requires g c = tt

@@ -3,12 +3,9 @@ use Rattle.m2_base.specs.Gives.{gives}
 use Rattle.m2_base.specs.Statics.Functions.{capital, wrong_at}
 use Rattle.m2_base.specs.Statics.Types.{base_of}
 use Rattle.type_rules.specs.Sites.{context_of}
+use Rattle.type_rules.proofs.Reading.{Reads-refl}
 use Rattle.const_eval.proofs.FunctionArguments.{cap_bad, cap_by}
 use Rattle.const_eval.proofs.functions.cap_of.Goals as goal
-
-pub returns-then-is_bad-clause-told : goal.returns-then-is_bad-clause-told
-returns-then-is_bad-clause-told g c made in_hand told =
-    cap_bad (context_of (g.S.Scopes.state c.args.scopes.now).frame made c.args.site.now) c.args.at c.args.x (sym c.is_bad.ensures ∙ c.if-is_bad.true)
 
 pub returns-then-eq-clause-told : goal.returns-then-eq-clause-told
 returns-then-eq-clause-told g c made in_hand told =
@@ -19,10 +16,54 @@ returns-then-eq-clause-told g c made in_hand told =
     ∙ cap_by now c.args.at c.args.x taken c.in-Known.value (sym c.is_bad.ensures ∙ c.if-is_bad.false)
     (c.char_of_string-taken.ensures.told now.source refl) (c.in-Known.ensures.told made in_hand told ∙ ap (base_of now.scene) c.operand_type.ensures)
 
-pub returns-else-eq-clause-told : goal.returns-else-eq-clause-told
-returns-else-eq-clause-told g c made in_hand told =
-    let now = context_of (g.S.Scopes.state c.args.scopes.now).frame made c.args.site.now in
-    let taken = c.char_of_string-taken.result in
-    ap (λ b. if b then gives (capital taken) else wrong_at now c.args.at) (sym c.if-eq.false ∙ c.eq.ensures)
-    ∙ cap_by now c.args.at c.args.x taken c.in-Known.value (sym c.is_bad.ensures ∙ c.if-is_bad.false)
-    (c.char_of_string-taken.ensures.told now.source refl) (c.in-Known.ensures.told made in_hand told ∙ ap (base_of now.scene) c.operand_type.ensures)
+pub base_of-requires-clause-suits : goal.base_of-requires-clause-suits
+base_of-requires-clause-suits g c = c.requires.suits.around
+
+pub eq-requires : goal.eq-requires
+eq-requires g c = tt
+
+pub is_bad-requires : goal.is_bad-requires
+is_bad-requires g c = tt
+
+pub operand_type-requires : goal.operand_type-requires
+operand_type-requires g c = tt
+
+pub returns-in-DontKnowYet : goal.returns-in-DontKnowYet
+returns-in-DontKnowYet g c =
+    record {
+      reads = c.in-DontKnowYet.ensures.reads;
+      waits = c.in-DontKnowYet.ensures.waits;
+      told = λ made in_hand told. tt;
+      there = tt;
+    }
+
+pub returns-then-is_bad : goal.returns-then-is_bad
+returns-then-is_bad g c =
+    record {
+      reads = Reads-refl _;
+      waits = tt;
+      told = λ made in_hand told. cap_bad (context_of (g.S.Scopes.state c.args.scopes.now).frame made c.args.site.now) c.args.at c.args.x (sym c.is_bad.ensures ∙ c.if-is_bad.true);
+      there = c.requires.x;
+    }
+
+pub returns-else-eq : goal.returns-else-eq
+returns-else-eq g c =
+    record {
+      reads = c.in-Known.ensures.reads;
+      waits = tt;
+      told = λ made in_hand told. (let now = context_of (g.S.Scopes.state c.args.scopes.now).frame made c.args.site.now in
+          let taken = c.char_of_string-taken.result in
+          ap (λ b. if b then gives (capital taken) else wrong_at now c.args.at) (sym c.if-eq.false ∙ c.eq.ensures)
+          ∙ cap_by now c.args.at c.args.x taken c.in-Known.value (sym c.is_bad.ensures ∙ c.if-is_bad.false)
+          (c.char_of_string-taken.ensures.told now.source refl) (c.in-Known.ensures.told made in_hand told ∙ ap (base_of now.scene) c.operand_type.ensures));
+      there = tt;
+    }
+
+pub returns-then-eq-clause-reads : goal.returns-then-eq-clause-reads
+returns-then-eq-clause-reads g c = c.in-Known.ensures.reads
+
+pub returns-then-eq-clause-waits : goal.returns-then-eq-clause-waits
+returns-then-eq-clause-waits g c = tt
+
+pub capital-requires : goal.capital-requires
+capital-requires g c = tt

@@ -29,7 +29,24 @@ returns-in-Ok-clause-told g c made in_hand told =
     c.in-Known.ensures.reads.keeps.frame c.converted.ensures.told
     (after_ok _ c.in-Ok.x (λ v. converted (context_of f made s) c.args.at cardinal v) ((rw c.in-Ok.is at c.in-Known.ensures.told) made in_hand told)) in_hand told
 
-pub returns-in-Err-clause-told : goal.returns-in-Err-clause-told
-returns-in-Err-clause-told g c made in_hand told =
-    let now = context_of (g.S.Scopes.state c.args.scopes.now).frame made c.args.site.now in
-    ap (λ t. and_then t (λ v. converted now c.args.at cardinal v)) ((rw c.in-Err.is at c.in-Known.ensures.told) made in_hand told)
+pub ordinal_argument-requires : goal.ordinal_argument-requires
+ordinal_argument-requires g c = record { suits = c.requires.suits; x = c.requires.x }
+
+pub returns-in-DontKnowYet : goal.returns-in-DontKnowYet
+returns-in-DontKnowYet g c =
+    record {
+      reads = c.in-DontKnowYet.ensures.reads;
+      waits = c.in-DontKnowYet.ensures.waits;
+      told = λ made in_hand told. tt;
+      there = tt;
+    }
+
+pub returns-in-Err : goal.returns-in-Err
+returns-in-Err g c =
+    record {
+      reads = c.in-Known.ensures.reads;
+      waits = tt;
+      told = λ made in_hand told. (let now = context_of (g.S.Scopes.state c.args.scopes.now).frame made c.args.site.now in
+          ap (λ t. and_then t (λ v. converted now c.args.at cardinal v)) ((rw c.in-Err.is at c.in-Known.ensures.told) made in_hand told));
+      there = tt;
+    }

@@ -10,7 +10,7 @@ use Rattle.m2_base.specs.Statics.Types.{range_of}
 use Rattle.m2_base.specs.declared.diagnostic.Diagnostic.TheVariants.{NotAType}
 use Rattle.type_rules.specs.Sites.{context_of}
 use Rattle.type_rules.proofs.Later.{IsThere_read, Suits_read}
-use Rattle.type_rules.proofs.Reading.{Reads-trans, Waits_read}
+use Rattle.type_rules.proofs.Reading.{Reads-trans, Waits_read, Reads-refl}
 use Rattle.const_eval.proofs.FunctionArguments.{type_by_range}
 use Rattle.const_eval.proofs.Judging.{told_first}
 use Rattle.const_eval.proofs.TypeArguments.{broken_passes, no_type, type_refused}
@@ -47,12 +47,6 @@ range_of-requires-clause-suits g c = Suits_read c.in-Known.ensures.reads c.requi
 pub range_of-requires-clause-there : goal.range_of-requires-clause-there
 range_of-requires-clause-there g c = IsThere_read c.in-Known.ensures.reads (rw c.in-NamedType.is at c.requires.x)
 
-pub returns-in-DontKnowYet-range_of-clause-reads : goal.returns-in-DontKnowYet-range_of-clause-reads
-returns-in-DontKnowYet-range_of-clause-reads g c = Reads-trans c.in-Known.ensures.reads c.in-DontKnowYet-range_of.ensures.reads
-
-pub returns-in-DontKnowYet-range_of-clause-waits : goal.returns-in-DontKnowYet-range_of-clause-waits
-returns-in-DontKnowYet-range_of-clause-waits g c = Waits_read c.in-Known.ensures.reads c.in-DontKnowYet-range_of.ensures.waits
-
 pub returns-in-Some-clause-reads : goal.returns-in-Some-clause-reads
 returns-in-Some-clause-reads g c = Reads-trans c.in-Known.ensures.reads c.in-Known-range_of.ensures.reads
 
@@ -80,3 +74,48 @@ returns-in-None-clause-told g c made in_hand told =
     ap (λ v. if not false && is_none (option_map (λ ends. range ends.0 ends.1) v) then refuse now c.args.at wrong_argument broken else gives of) (sym c.in-None.is)
     ∙ type_by_range now c.args.at of false _ (sym c.if-value.false ∙ c.in-Known.ensures.told made in_hand told) ends
     ∙ ap (ordinal_type_argument now c.args.at) (sym c.in-NamedType.is)
+
+pub is_broken-requires-clause-suits : goal.is_broken-requires-clause-suits
+is_broken-requires-clause-suits g c = c.requires.suits.around
+
+pub returns-in-DontKnowYet : goal.returns-in-DontKnowYet
+returns-in-DontKnowYet g c =
+    record {
+      reads = c.in-DontKnowYet.ensures.reads;
+      waits = c.in-DontKnowYet.ensures.waits;
+      told = λ made in_hand told. tt;
+      there = tt;
+    }
+
+pub returns-in-DontKnowYet-range_of : goal.returns-in-DontKnowYet-range_of
+returns-in-DontKnowYet-range_of g c =
+    record {
+      reads = Reads-trans c.in-Known.ensures.reads c.in-DontKnowYet-range_of.ensures.reads;
+      waits = Waits_read c.in-Known.ensures.reads c.in-DontKnowYet-range_of.ensures.waits;
+      told = λ made in_hand told. tt;
+      there = tt;
+    }
+
+pub returns-in-InError-clause-reads : goal.returns-in-InError-clause-reads
+returns-in-InError-clause-reads g c = Reads-refl _
+
+pub returns-in-InError-clause-waits : goal.returns-in-InError-clause-waits
+returns-in-InError-clause-waits g c = tt
+
+pub returns-in-None-clause-waits : goal.returns-in-None-clause-waits
+returns-in-None-clause-waits g c = tt
+
+pub returns-in-Some-clause-waits : goal.returns-in-Some-clause-waits
+returns-in-Some-clause-waits g c = tt
+
+pub returns-in_default-clause-reads : goal.returns-in_default-clause-reads
+returns-in_default-clause-reads g c = Reads-refl _
+
+pub returns-in_default-clause-waits : goal.returns-in_default-clause-waits
+returns-in_default-clause-waits g c = tt
+
+pub returns-then-value-clause-reads : goal.returns-then-value-clause-reads
+returns-then-value-clause-reads g c = c.in-Known.ensures.reads
+
+pub returns-then-value-clause-waits : goal.returns-then-value-clause-waits
+returns-then-value-clause-waits g c = tt

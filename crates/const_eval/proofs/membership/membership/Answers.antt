@@ -206,3 +206,12 @@ returns-in-Err-clause-there g c = tt
 
 pub returns-in-Ok-clause-there : goal.returns-in-Ok-clause-there
 returns-in-Ok-clause-there g c = c.member_of_set.ensures.there (g.S.Scopes.state c.args.scopes.now).frame (standard_type c.requires.suits.around 3)
+
+pub as_number-requires : goal.as_number-requires
+as_number-requires g c = tt
+
+pub eq-requires : goal.eq-requires
+eq-requires g c = tt
+
+pub member_of_set-requires : goal.member_of_set-requires
+member_of_set-requires g c = tt

@@ -25,15 +25,6 @@ stand-requires-clause-suits g c = Suits_read c.in-Known.ensures.reads c.requires
 pub stand-requires-clause-there : goal.stand-requires-clause-there
 stand-requires-clause-there g c = IsThere_read c.in-Known.ensures.reads c.requires.there
 
-pub returns-in-DontKnowYet-stand-clause-reads : goal.returns-in-DontKnowYet-stand-clause-reads
-returns-in-DontKnowYet-stand-clause-reads g c = Reads-trans c.in-Known.ensures.reads c.in-DontKnowYet-stand.ensures.reads
-
-pub returns-in-DontKnowYet-stand-clause-waits : goal.returns-in-DontKnowYet-stand-clause-waits
-returns-in-DontKnowYet-stand-clause-waits g c = Waits_read c.in-Known.ensures.reads c.in-DontKnowYet-stand.ensures.waits
-
-pub returns-in_default-clause-reads : goal.returns-in_default-clause-reads
-returns-in_default-clause-reads g c = Reads-trans c.in-Known.ensures.reads c.in-Known-stand.ensures.reads
-
 pub returns-in-OpenArray-clause-reads : goal.returns-in-OpenArray-clause-reads
 returns-in-OpenArray-clause-reads g c = Reads-trans (Reads-trans c.in-Known.ensures.reads c.in-Known-stand.ensures.reads) c.is_broken-in-OpenArray.ensures.reads
 
@@ -53,12 +44,47 @@ returns-in-OpenArray-clause-told g c made in_hand told =
     ∙ ap (λ b. b || is_open_of_broken scene (kind_of scene c.args.of)) (sym c.if-value.false ∙ c.in-Known.ensures.told made in_hand told))
     (told_later f _ (λ (h : Frame) (rows : Hand). WhereKnown c.is_broken-in-OpenArray.result (λ holds. holds ≡ is_broken (scene_of h rows around) c.in-OpenArray.element)) both.keeps.frame c.is_broken-in-OpenArray.ensures.told made in_hand told)
 
-pub returns-in_default-clause-told : goal.returns-in_default-clause-told
-returns-in_default-clause-told g c made in_hand told =
-    let f = (g.S.Scopes.state c.args.scopes.now).frame in
-    let around = c.args.around.now in
-    let scene = scene_of f made around in
-    let kind = told_first _ f _ (λ h rows. kind_of (scene_of h rows around) c.args.of) c.in-Known.ensures.reads.keeps.frame c.in-Known-stand.ensures.kind made in_hand told in
-    not_open scene _ c.in_default.not-OpenArray
-    ∙ ap (is_open_of_broken scene) kind
-    ∙ ap (λ b. b || is_open_of_broken scene (kind_of scene c.args.of)) (sym c.if-value.false ∙ c.in-Known.ensures.told made in_hand told)
+pub is_broken-requires : goal.is_broken-requires
+is_broken-requires g c = record { suits = c.requires.suits; there = c.requires.there }
+
+pub returns-in-DontKnowYet : goal.returns-in-DontKnowYet
+returns-in-DontKnowYet g c =
+    record {
+      reads = c.in-DontKnowYet.ensures.reads;
+      waits = c.in-DontKnowYet.ensures.waits;
+      told = λ made in_hand told. tt;
+    }
+
+pub returns-in-DontKnowYet-stand : goal.returns-in-DontKnowYet-stand
+returns-in-DontKnowYet-stand g c =
+    record {
+      reads = Reads-trans c.in-Known.ensures.reads c.in-DontKnowYet-stand.ensures.reads;
+      waits = Waits_read c.in-Known.ensures.reads c.in-DontKnowYet-stand.ensures.waits;
+      told = λ made in_hand told. tt;
+    }
+
+pub is_broken-requires-in-OpenArray-clause-suits : goal.is_broken-requires-in-OpenArray-clause-suits
+is_broken-requires-in-OpenArray-clause-suits g c = Suits_read (Reads-trans c.in-Known.ensures.reads c.in-Known-stand.ensures.reads) c.requires.suits
+
+pub returns-then-value : goal.returns-then-value
+returns-then-value g c =
+    record {
+      reads = c.in-Known.ensures.reads;
+      waits = tt;
+      told = λ made in_hand told. (let scene = scene_of (g.S.Scopes.state c.args.scopes.now).frame made c.args.around.now in
+          ap (λ b. b || is_open_of_broken scene (kind_of scene c.args.of)) (sym c.if-value.true ∙ c.in-Known.ensures.told made in_hand told));
+    }
+
+pub returns-in_default : goal.returns-in_default
+returns-in_default g c =
+    record {
+      reads = Reads-trans c.in-Known.ensures.reads c.in-Known-stand.ensures.reads;
+      waits = tt;
+      told = λ made in_hand told. (let f = (g.S.Scopes.state c.args.scopes.now).frame in
+          let around = c.args.around.now in
+          let scene = scene_of f made around in
+          let kind = told_first _ f _ (λ h rows. kind_of (scene_of h rows around) c.args.of) c.in-Known.ensures.reads.keeps.frame c.in-Known-stand.ensures.kind made in_hand told in
+          not_open scene _ c.in_default.not-OpenArray
+          ∙ ap (is_open_of_broken scene) kind
+          ∙ ap (λ b. b || is_open_of_broken scene (kind_of scene c.args.of)) (sym c.if-value.false ∙ c.in-Known.ensures.told made in_hand told));
+    }

@@ -61,3 +61,6 @@ returns-in-None g c =
     and_after (λ k. use_of k c.args.within c.args.ident.name c.args.ident.at) (λ e k. gives (in_constant (operand_of_use k.scene e))) (Ok (Known InError)) first
     (value_everywhere (g.S.Scopes.state c.use_name.new.scopes) c.use_name.new.notes s InError IsOperand (λ k. gives (in_constant (operand_of_use k.scene c.in-Known.value))) tt
     (λ k. ap (λ b. gives (in_constant (operand_of_use k.scene b))) (sym c.in-None.is)))
+
+pub in_constant-requires : goal.in_constant-requires
+in_constant-requires g c = tt

@@ -1,4 +1,4 @@
-use Rattle.std.proofs.Common.{◌≡◌, ◌∙◌, rules, sym, ap, refl, if◌then◌else◌, to_z, of_z, w64}
+use Rattle.std.proofs.Common.{◌≡◌, ◌∙◌, rules, sym, ap, refl, if◌then◌else◌, to_z, of_z, w64, arith, Fits, w32}
 use Rattle.m2_base.specs.Rows.{row_meaning}
 use Rattle.m2_base.specs.Statics.NamedOperands.{operand_by}
 use Rattle.m2_base.specs.Statics.Types.{is_broken as spec_broken}
@@ -6,6 +6,7 @@ use Rattle.m2_base.specs.declared.operands.Operand.TheVariants as Operand
 use Rattle.m2_base.specs.declared.rows.RowMeaning.TheVariants.{Const, TypeName, Var}
 use Rattle.type_rules.specs.Scenes.{scene_of}
 use Rattle.type_rules.proofs.Compatibles.{told_as}
+use Rattle.type_rules.proofs.Later.{IsThere_before}
 use Rattle.type_rules.proofs.Reading.{Reads-refl}
 use Rattle.const_eval.proofs.names.operand_of.Goals as goal
 
@@ -139,3 +140,45 @@ returns-in_default-clause-waits g c = tt
 
 pub returns-in_default-clause-there : goal.returns-in_default-clause-there
 returns-in_default-clause-there g c = tt
+
+pub read_row-requires : goal.read_row-requires
+read_row-requires g c = c.requires.row.said.small
+
+pub unless_broken-requires-clause-there : goal.unless_broken-requires-clause-there
+unless_broken-requires-clause-there g c =
+    let o : Fits w32 c.args.place.ordinal = search rules in
+    IsThere_before _ c.args.place c.in-Const.of o.fits c.requires.row.there (rw (sym c.read_row.ensures ∙ c.in-Const.is) at c.requires.row.said.fits).0
+
+pub unless_broken-requires-in-TypeName-clause-suits : goal.unless_broken-requires-in-TypeName-clause-suits
+unless_broken-requires-in-TypeName-clause-suits g c = c.requires.suits
+
+pub unless_broken-requires-in-TypeName-clause-there : goal.unless_broken-requires-in-TypeName-clause-there
+unless_broken-requires-in-TypeName-clause-there g c =
+    let o : Fits w32 c.args.place.ordinal = search rules in
+    IsThere_before _ c.args.place c.in-TypeName.of o.fits c.requires.row.there (rw (sym c.read_row.ensures ∙ c.in-TypeName.is) at c.requires.row.said.fits)
+
+pub unless_broken-requires-in-TypeName-clause-operand : goal.unless_broken-requires-in-TypeName-clause-operand
+unless_broken-requires-in-TypeName-clause-operand g c =
+    let o : Fits w32 c.args.place.ordinal = search rules in
+    IsThere_before _ c.args.place c.in-TypeName.of o.fits c.requires.row.there (rw (sym c.read_row.ensures ∙ c.in-TypeName.is) at c.requires.row.said.fits)
+
+pub is_in_error-requires-clause-there : goal.is_in_error-requires-clause-there
+is_in_error-requires-clause-there g c =
+    let o : Fits w32 c.args.place.ordinal = search rules in
+    IsThere_before _ c.args.place c.in-Var.of o.fits c.requires.row.there (rw (sym c.read_row.ensures ∙ c.in-Var.is) at c.requires.row.said.fits).0
+
+pub returns-else-value-clause-there : goal.returns-else-value-clause-there
+returns-else-value-clause-there g c =
+    let o : Fits w32 c.args.place.ordinal = search rules in
+    IsThere_before _ c.args.place c.in-Var.of o.fits c.requires.row.there (rw (sym c.read_row.ensures ∙ c.in-Var.is) at c.requires.row.said.fits).0
+
+pub returns-in-Proc-clause-there : goal.returns-in-Proc-clause-there
+returns-in-Proc-clause-there g c =
+    let o : Fits w32 c.args.place.ordinal = search rules in
+    IsThere_before _ c.args.place c.in-Proc.of o.fits c.requires.row.there (rw (sym c.read_row.ensures ∙ c.in-Proc.is) at c.requires.row.said.fits).0
+
+pub returns-in-Module-clause-there : goal.returns-in-Module-clause-there
+returns-in-Module-clause-there g c =
+    let within = c.requires.row.there.scope in
+    let below = (rw (sym c.read_row.ensures ∙ c.in-Module.is) at c.requires.row.said.fits) in
+    omega (arith, within, below)

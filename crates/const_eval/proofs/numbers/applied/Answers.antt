@@ -65,3 +65,12 @@ returns-in_default-2-clause-told c now same =
 pub returns-in_default-3-clause-told : goal.returns-in_default-3-clause-told
 returns-in_default-3-clause-told c now same =
     signed now c.args.operator.operator c.args.operator.at c.args.operand c.args.base false false c.in_default.not-Not same c.if-eq-2.ensures c.if-eq-3.ensures
+
+pub eq-requires : goal.eq-requires
+eq-requires c = tt
+
+pub eq-requires-in-Equal-1 : goal.eq-requires-in-Equal-1
+eq-requires-in-Equal-1 c = tt
+
+pub eq-requires-in-Equal-2 : goal.eq-requires-in-Equal-2
+eq-requires-in-Equal-2 c = tt

@@ -11,3 +11,15 @@ returns-in-Some-clause-there c = λ f h. (
   subst IsValue (sym (to_z-of_z w64 c.in-Some.value (search rules)))
       (subst (λ (o : Option ℤ). WhereKept o IsValue) (sym c.fold.ensures ∙ c.in-Some.is) (fold_value c.args.kind c.args.operator.operator _ _)),
 )
+
+pub constant_value-requires : goal.constant_value-requires
+constant_value-requires c = tt
+
+pub constant_value-requires-2 : goal.constant_value-requires-2
+constant_value-requires-2 c = tt
+
+pub is_bad-requires : goal.is_bad-requires
+is_bad-requires c = tt
+
+pub is_bad-requires-else-is_bad : goal.is_bad-requires-else-is_bad
+is_bad-requires-else-is_bad c = tt

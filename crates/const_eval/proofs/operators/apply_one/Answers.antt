@@ -14,3 +14,9 @@ returns-clause-told g c made in_hand told =
     let now = context_of (g.S.Scopes.state c.args.scopes.now).frame made c.args.site.now in
     c.applied.ensures.told now (c.in-Known.ensures.told made in_hand told ∙ ap (base_of now.scene) c.operand_type.ensures)
     ∙ apply_by now c.args.operator.operator c.args.operator.at c.args.operand _ (sym c.if-is_bad.false ∙ c.is_bad.ensures)
+
+pub applied-requires : goal.applied-requires
+applied-requires g c = tt
+
+pub is_bad-requires : goal.is_bad-requires
+is_bad-requires g c = tt

@@ -1,7 +1,9 @@
-use Rattle.std.proofs.Common.{◌∙◌, sym, ap}
+use Rattle.std.proofs.Common.{◌∙◌, sym, ap, subst}
 use Rattle.m2_base.specs.Statics.Types.{base_of}
 use Rattle.type_rules.specs.Sites.{context_of}
+use Rattle.type_rules.specs.Scenes.{IsThere}
 use Rattle.const_eval.proofs.Operating.{both_hold, logical_by}
+use Rattle.const_eval.proofs.TypesThere.{type_there}
 use Rattle.const_eval.proofs.operators.logical.Goals as goal
 
 pub returns-then-eq-2-clause-told : goal.returns-then-eq-2-clause-told
@@ -12,3 +14,53 @@ returns-then-eq-2-clause-told g c made in_hand told =
     (c.in-Known.ensures.left made in_hand told ∙ ap (base_of now.scene) c.operand_type.ensures)
     (c.in-Known.ensures.right made in_hand told ∙ ap (base_of now.scene) c.operand_type-2.ensures)
     _ (both_hold _ _ (sym c.eq.ensures ∙ c.if-eq.true) (sym c.eq-then-eq.ensures ∙ c.if-eq-2.true))
+
+pub bases_of-requires-clause-suits : goal.bases_of-requires-clause-suits
+bases_of-requires-clause-suits g c = c.requires.suits.around
+
+pub eq-requires : goal.eq-requires
+eq-requires g c = tt
+
+pub eq-requires-then-eq : goal.eq-requires-then-eq
+eq-requires-then-eq g c = tt
+
+pub operand_type-requires : goal.operand_type-requires
+operand_type-requires g c = tt
+
+pub operand_type-requires-2 : goal.operand_type-requires-2
+operand_type-requires-2 g c = tt
+
+pub returns-in-DontKnowYet : goal.returns-in-DontKnowYet
+returns-in-DontKnowYet g c =
+    record {
+      reads = c.in-DontKnowYet.ensures.reads;
+      waits = c.in-DontKnowYet.ensures.waits;
+      told = λ made in_hand told. tt;
+      there = tt;
+    }
+
+pub returns-then-eq-2-clause-reads : goal.returns-then-eq-2-clause-reads
+returns-then-eq-2-clause-reads g c = c.in-Known.ensures.reads
+
+pub returns-then-eq-2-clause-waits : goal.returns-then-eq-2-clause-waits
+returns-then-eq-2-clause-waits g c = tt
+
+pub returns-else-eq-clause-reads : goal.returns-else-eq-clause-reads
+returns-else-eq-clause-reads g c = c.in-Known.ensures.reads
+
+pub returns-else-eq-clause-waits : goal.returns-else-eq-clause-waits
+returns-else-eq-clause-waits g c = tt
+
+pub returns-else-eq-clause-there : goal.returns-else-eq-clause-there
+returns-else-eq-clause-there g c = tt
+
+pub combined-requires : goal.combined-requires
+combined-requires g c = tt
+
+pub bases_of-requires-clause-x : goal.bases_of-requires-clause-x
+bases_of-requires-clause-x g c =
+    subst (λ t. IsThere (g.S.Scopes.state c.args.scopes.now).frame t) (sym c.operand_type.ensures) (type_there c.requires.suits.around c.args.x c.requires.x)
+
+pub bases_of-requires-clause-y : goal.bases_of-requires-clause-y
+bases_of-requires-clause-y g c =
+    subst (λ t. IsThere (g.S.Scopes.state c.args.scopes.now).frame t) (sym c.operand_type-2.ensures) (type_there c.requires.suits.around c.args.y c.requires.y)

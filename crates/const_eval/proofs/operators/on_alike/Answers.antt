@@ -260,3 +260,18 @@ taken-left-requires g c = subst (λ (l : List (List ℕ)). IsNamed l c.args.x.op
 
 pub taken-right-requires : goal.taken-right-requires
 taken-right-requires g c = subst (λ (l : List (List ℕ)). IsNamed l c.args.y.operand) (sym (ap (λ (t : UnitTexts). t.names) c.texts.view_is)) (operand_named c.requires.suits c.args.y.operand c.requires.y)
+
+pub are_sets_alike-requires : goal.are_sets_alike-requires
+are_sets_alike-requires g c = tt
+
+pub is_number-requires : goal.is_number-requires
+is_number-requires g c = tt
+
+pub is_number-requires-then-is_number : goal.is_number-requires-then-is_number
+is_number-requires-then-is_number g c = tt
+
+pub on_numbers-requires : goal.on_numbers-requires
+on_numbers-requires g c = tt
+
+pub set_operation-requires : goal.set_operation-requires
+set_operation-requires g c = tt

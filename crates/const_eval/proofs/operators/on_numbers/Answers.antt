@@ -52,3 +52,24 @@ returns-in-Ok-as_number-clause-told c k there left right =
 
 pub returns-in-Err-clause-there : goal.returns-in-Err-clause-there
 returns-in-Err-clause-there c f a suits left right = tt
+
+pub as_number-requires : goal.as_number-requires
+as_number-requires c = tt
+
+pub as_number-requires-2 : goal.as_number-requires-2
+as_number-requires-2 c = tt
+
+pub combined-requires : goal.combined-requires
+combined-requires c = tt
+
+pub number_kind-kind-requires : goal.number_kind-kind-requires
+number_kind-kind-requires c = tt
+
+pub number_type-of-requires : goal.number_type-of-requires
+number_type-of-requires c = tt
+
+pub takes_base-requires : goal.takes_base-requires
+takes_base-requires c = tt
+
+pub returns-in-Err-as_number-clause-there : goal.returns-in-Err-as_number-clause-there
+returns-in-Err-as_number-clause-there c f a suits x y = tt

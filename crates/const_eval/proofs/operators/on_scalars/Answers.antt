@@ -14,12 +14,6 @@ stand-requires-2-clause-suits g c = Suits_read c.in-Known.ensures.reads c.requir
 pub stand-requires-2-clause-there : goal.stand-requires-2-clause-there
 stand-requires-2-clause-there g c = IsThere_read c.in-Known.ensures.reads c.requires.y.base
 
-pub returns-in-DontKnowYet-stand-clause-reads : goal.returns-in-DontKnowYet-stand-clause-reads
-returns-in-DontKnowYet-stand-clause-reads g c = Reads-trans c.in-Known.ensures.reads c.in-DontKnowYet-stand.ensures.reads
-
-pub returns-in-DontKnowYet-stand-clause-waits : goal.returns-in-DontKnowYet-stand-clause-waits
-returns-in-DontKnowYet-stand-clause-waits g c = Waits_read c.in-Known.ensures.reads c.in-DontKnowYet-stand.ensures.waits
-
 pub returns-then-compares-clause-reads : goal.returns-then-compares-clause-reads
 returns-then-compares-clause-reads g c = Reads-trans c.in-Known.ensures.reads c.in-Known-stand.ensures.reads
 
@@ -46,3 +40,33 @@ returns-else-compares-clause-told g c made in_hand told left right =
     (sym c.if-compares.false ∙ c.compares.ensures
     ∙ compared now.scene c.args.operator.operator c.args.x.base c.args.y.base c.in-Known.value.1 c.in-Known-stand.value.1 (c.in-Known.ensures.kind made in_hand told)
     (told_first c.in-Known-stand.value.1 f _ (λ h rows. kind_of (scene_of h rows s.around.now) c.args.y.base) c.in-Known.ensures.reads.keeps.frame c.in-Known-stand.ensures.kind made in_hand told))
+
+pub returns-in-DontKnowYet : goal.returns-in-DontKnowYet
+returns-in-DontKnowYet g c =
+    record {
+      reads = c.in-DontKnowYet.ensures.reads;
+      waits = c.in-DontKnowYet.ensures.waits;
+      told = λ made in_hand told. tt;
+      there = tt;
+    }
+
+pub returns-in-DontKnowYet-stand : goal.returns-in-DontKnowYet-stand
+returns-in-DontKnowYet-stand g c =
+    record {
+      reads = Reads-trans c.in-Known.ensures.reads c.in-DontKnowYet-stand.ensures.reads;
+      waits = Waits_read c.in-Known.ensures.reads c.in-DontKnowYet-stand.ensures.waits;
+      told = λ made in_hand told. tt;
+      there = tt;
+    }
+
+pub returns-else-compares-clause-waits : goal.returns-else-compares-clause-waits
+returns-else-compares-clause-waits g c = tt
+
+pub returns-then-compares-clause-waits : goal.returns-then-compares-clause-waits
+returns-then-compares-clause-waits g c = tt
+
+pub combined-requires : goal.combined-requires
+combined-requires g c = tt
+
+pub compares-requires : goal.compares-requires
+compares-requires g c = tt

@@ -151,3 +151,12 @@ returns-in-None-clause-waits g c = tt
 
 pub returns-in-None-clause-there : goal.returns-in-None-clause-there
 returns-in-None-clause-there g c = tt
+
+pub element_within-requires : goal.element_within-requires
+element_within-requires g c = tt
+
+pub is_bad-requires : goal.is_bad-requires
+is_bad-requires g c = tt
+
+pub is_procedure-requires : goal.is_procedure-requires
+is_procedure-requires g c = tt

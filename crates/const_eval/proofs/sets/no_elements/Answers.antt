@@ -13,12 +13,6 @@ is_broken-requires-clause-suits g c = Suits_read c.in-Known.ensures.reads c.requ
 pub is_broken-requires-clause-there : goal.is_broken-requires-clause-there
 is_broken-requires-clause-there g c = IsThere_read c.in-Known.ensures.reads c.in-Known.ensures.there
 
-pub returns-in-DontKnowYet-is_broken-clause-reads : goal.returns-in-DontKnowYet-is_broken-clause-reads
-returns-in-DontKnowYet-is_broken-clause-reads g c = Reads-trans c.in-Known.ensures.reads c.in-DontKnowYet-is_broken.ensures.reads
-
-pub returns-in-DontKnowYet-is_broken-clause-waits : goal.returns-in-DontKnowYet-is_broken-clause-waits
-returns-in-DontKnowYet-is_broken-clause-waits g c = Waits_read c.in-Known.ensures.reads c.in-DontKnowYet-is_broken.ensures.waits
-
 pub returns-then-value-clause-reads : goal.returns-then-value-clause-reads
 returns-then-value-clause-reads g c = Reads-trans c.in-Known.ensures.reads c.in-Known-is_broken.ensures.reads
 
@@ -40,3 +34,27 @@ returns-else-value-clause-told g c made in_hand told =
     ap (λ b. if b then InError else Constant c.args.of (pos 0))
     (sym c.if-value.false ∙ told_first _ f _ (λ h rows. is_broken (scene_of h rows a) c.in-Known.value) c.in-Known.ensures.reads.keeps.frame c.in-Known-is_broken.ensures.told made in_hand told
     ∙ ap (is_broken (scene_of f made a)) (c.in-Known.ensures.told made in_hand told))
+
+pub returns-in-DontKnowYet : goal.returns-in-DontKnowYet
+returns-in-DontKnowYet g c =
+    record {
+      reads = c.in-DontKnowYet.ensures.reads;
+      waits = c.in-DontKnowYet.ensures.waits;
+      told = λ made in_hand told. tt;
+      there = tt;
+    }
+
+pub returns-in-DontKnowYet-is_broken : goal.returns-in-DontKnowYet-is_broken
+returns-in-DontKnowYet-is_broken g c =
+    record {
+      reads = Reads-trans c.in-Known.ensures.reads c.in-DontKnowYet-is_broken.ensures.reads;
+      waits = Waits_read c.in-Known.ensures.reads c.in-DontKnowYet-is_broken.ensures.waits;
+      told = λ made in_hand told. tt;
+      there = tt;
+    }
+
+pub returns-then-value-clause-waits : goal.returns-then-value-clause-waits
+returns-then-value-clause-waits g c = tt
+
+pub returns-else-value-clause-waits : goal.returns-else-value-clause-waits
+returns-else-value-clause-waits g c = tt

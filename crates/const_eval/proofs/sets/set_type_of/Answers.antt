@@ -1,6 +1,7 @@
 use Rattle.std.proofs.Common.{◌∙◌, ap}
 use Rattle.m2_base.specs.Statics.Types.{kind_of, stands_for}
 use Rattle.type_rules.specs.Sites.{context_of}
+use Rattle.type_rules.proofs.Reading.{Reads-refl}
 use Rattle.const_eval.specs.Structures.{type_by}
 use Rattle.const_eval.proofs.SetRows.{set_type_is}
 use Rattle.const_eval.proofs.sets.set_type_of.Goals as goal
@@ -18,3 +19,30 @@ returns-in-None-clause-told g c made in_hand told =
     rw c.in-NamedType.is
     (ap (type_by now c.args.at) ((rw c.in-None.is at c.in-Known.ensures.told) made in_hand told)
     ∙ set_type_is now c.args.at (stands_for now.scene c.in-NamedType.of) (kind_of now.scene c.in-NamedType.of))
+
+pub returns-in-DontKnowYet : goal.returns-in-DontKnowYet
+returns-in-DontKnowYet g c =
+    record {
+      reads = c.in-DontKnowYet.ensures.reads;
+      waits = c.in-DontKnowYet.ensures.waits;
+      told = λ made in_hand told. tt;
+      there = tt;
+    }
+
+pub returns-in-InError-clause-reads : goal.returns-in-InError-clause-reads
+returns-in-InError-clause-reads g c = Reads-refl _
+
+pub returns-in-InError-clause-waits : goal.returns-in-InError-clause-waits
+returns-in-InError-clause-waits g c = tt
+
+pub returns-in-None-clause-reads : goal.returns-in-None-clause-reads
+returns-in-None-clause-reads g c = c.in-Known.ensures.reads
+
+pub returns-in-None-clause-waits : goal.returns-in-None-clause-waits
+returns-in-None-clause-waits g c = tt
+
+pub returns-in-Some-clause-reads : goal.returns-in-Some-clause-reads
+returns-in-Some-clause-reads g c = c.in-Known.ensures.reads
+
+pub returns-in-Some-clause-waits : goal.returns-in-Some-clause-waits
+returns-in-Some-clause-waits g c = tt

@@ -22,3 +22,6 @@ loop-index-preserved g c =
 
 pub returns : goal.returns
 returns g c = all_arrays c.args.at c.args.indexes.now c.loop-index.index-iterator.iter.rest.now c.args.of c.loop-index.array c.in-None.ensures.steps.0 c.loop-index.invariant
+
+pub put_array-requires-clause-of : goal.put_array-requires-clause-of
+put_array-requires-clause-of g c = c.loop-index.invariant.elem

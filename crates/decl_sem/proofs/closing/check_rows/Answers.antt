@@ -1,13 +1,14 @@
 use Rattle.std.specs.Prelude.{◌≡◌, ◌+◌, Bool, None, Some, slice_get}
 use Rattle.std.proofs.Common.{arith, subst, sym, ◌∙◌}
 use Rattle.m2_base.specs.Tables.{rows_at}
-use Rattle.type_rules.specs.Scenes.{rows_of}
+use Rattle.type_rules.specs.Scenes.{rows_of, IsRowOf}
 use Rattle.type_rules.specs.Sites.{context_of}
 use Rattle.type_rules.proofs.Compatibles.{told_later}
 use Rattle.type_rules.proofs.Later.{Suits_read}
 use Rattle.type_rules.proofs.Reading.{Reads-trans, Waits_read}
 use Rattle.decl_sem.specs.Closing.{AreChecked, row_implemented}
 use Rattle.decl_sem.proofs.OwnRows.{AreCheckedTo, all_checked, known_told, row_checked, rows_checked}
+use Rattle.m2_base.specs.States.{Frame}
 use Rattle.decl_sem.proofs.closing.check_rows.Goals as goal
 
 pub row_before-requires-clause-suits : goal.row_before-requires-clause-suits
@@ -71,3 +72,11 @@ pub returns-clause-told : goal.returns-clause-told
 returns-clause-told g c =
     all_checked (g.S.Scopes.state c.args.scopes.now).frame c.args.site.now c.args.own c.args.notes.now.diags.items c.loop-ordinal.notes.diags.items c.loop-ordinal.missing c.loop-ordinal.ordinal
     c.requires.suits c.requires.before (let h = c.loop-ordinal-test.false in omega arith) c.loop-ordinal.invariant.left
+
+pub check_row-requires-clause-suits : goal.check_row-requires-clause-suits
+check_row-requires-clause-suits g c = Suits_read (Reads-trans c.loop-ordinal.invariant.reads c.row_before.ensures.reads) c.requires.suits
+
+pub check_row-requires-clause-row : goal.check_row-requires-clause-row
+check_row-requires-clause-row g c =
+    subst (λ (f : Frame). IsRowOf f (record { scope = c.args.own; ordinal = c.loop-ordinal.ordinal }) c.in-Some.row) (sym c.row_before.ensures.reads.keeps.frame)
+    (rw c.in-Some.is at c.in-Known.ensures.row)

@@ -1,5 +1,15 @@
 use Rattle.type_rules.proofs.Later.{Suits_read, Waits_asked}
 use Rattle.type_rules.proofs.Reading.{Reads-trans, Waits_read}
+use Rattle.std.specs.Option.{IfSome}
+use Rattle.std.proofs.Common.{◌≡◌, ◌∙◌, Bool, Option, subst, sym, if◌then◌else◌}
+use Rattle.m2_base.specs.declared.rows.RowMeaning.{RowMeaning}
+use Rattle.m2_base.specs.States.{Frame}
+use Rattle.m2_base.specs.Statics.Closing.{implemented, implements_heading, is_implemented, type_implemented}
+use Rattle.m2_base.specs.Statics.Lookup.{Entry, entry_in}
+use Rattle.type_rules.specs.Asks.{WhereKnown}
+use Rattle.type_rules.specs.Scenes.{IsRowOf, rows_of, scene_of}
+use Rattle.type_rules.proofs.Compatibles.{told_later}
+use Rattle.decl_sem.specs.Implementing.{implemented_view}
 use Rattle.decl_sem.proofs.implementing.implementation_of.Goals as goal
 
 pub entry_of_module-requires-clause-suits : goal.entry_of_module-requires-clause-suits
@@ -29,3 +39,38 @@ returns-in-Known-entry_of_module-2-clause-waits g c = Waits_asked c.heading_impl
 pub returns-in-Known-entry_of_module-clause-reads : goal.returns-in-Known-entry_of_module-clause-reads
 returns-in-Known-entry_of_module-clause-reads g c =
     Reads-trans (Reads-trans c.is_opaque_before.ensures.reads c.entry_of_module.ensures.reads) c.type_implemented.ensures.reads
+
+pub type_implemented-requires-clause-row : goal.type_implemented-requires-clause-row
+type_implemented-requires-clause-row g c =
+    subst (λ (f : Frame). IfSome c.in-Known-entry_of_module.value (λ entry. IsRowOf f entry.0 entry.1)) (sym c.entry_of_module.ensures.reads.keeps.frame)
+    c.in-Known-entry_of_module.ensures.row
+
+pub returns-in-Known-entry_of_module-2-clause-told : goal.returns-in-Known-entry_of_module-2-clause-told
+returns-in-Known-entry_of_module-2-clause-told g c made in_hand told =
+    let f = (g.S.Scopes.state c.args.scopes.now).frame in
+    let mid = (g.S.Scopes.state c.entry_of_module-in-Proc.new.scopes).frame in
+    let a = c.args.around.now in
+    let scene = scene_of f made a in
+    let how = c.heading_implemented.result in
+    let heading = c.in-Proc.heading in
+    subst (λ (m : RowMeaning). WhereKnown how (λ i. implemented_view i ≡ implemented scene c.args.place.scope c.args.place.ordinal c.args.row.now.name m)) c.in-Proc.ensures
+    (subst (λ (e : Option Entry). WhereKnown how (λ i. implemented_view i ≡ implements_heading scene heading e)) (c.in-Known-entry_of_module-2.ensures.told made in_hand told)
+    (told_later f mid (λ h rows. WhereKnown how (λ i. implemented_view i ≡ implements_heading (scene_of h rows a) heading c.in-Known-entry_of_module-2.value))
+    c.entry_of_module-in-Proc.ensures.reads.keeps.frame c.heading_implemented.ensures.told made in_hand told))
+
+pub returns-in-Known-entry_of_module-clause-told : goal.returns-in-Known-entry_of_module-clause-told
+returns-in-Known-entry_of_module-clause-told g c made in_hand told =
+    let f = (g.S.Scopes.state c.args.scopes.now).frame in
+    let first = (g.S.Scopes.state c.is_opaque_before.new.scopes).frame in
+    let second = (g.S.Scopes.state c.entry_of_module.new.scopes).frame in
+    let a = c.args.around.now in
+    let scene = scene_of f made a in
+    let how = c.type_implemented.result in
+    let name = c.args.row.now.name in
+    subst (λ (m : RowMeaning). WhereKnown how (λ i. implemented_view i ≡ implemented scene c.args.place.scope c.args.place.ordinal name m)) c.in-TypeName.ensures
+    (subst (λ (b : Bool). WhereKnown how (λ i. implemented_view i ≡ (if b then type_implemented scene (entry_in scene.tables scene.block.home name) else is_implemented)))
+    (sym c.if-not-value.false ∙ c.in-Known.ensures.told made in_hand told)
+    (subst (λ (e : Option Entry). WhereKnown how (λ i. implemented_view i ≡ type_implemented scene e))
+    (told_later f first (λ h rows. c.in-Known-entry_of_module.value ≡ entry_in (rows_of h rows) a.module name) c.is_opaque_before.ensures.reads.keeps.frame c.in-Known-entry_of_module.ensures.told made in_hand told)
+    (told_later f second (λ h rows. WhereKnown how (λ i. implemented_view i ≡ type_implemented (scene_of h rows a) c.in-Known-entry_of_module.value))
+    (Reads-trans c.is_opaque_before.ensures.reads c.entry_of_module.ensures.reads).keeps.frame c.type_implemented.ensures.told made in_hand told)))

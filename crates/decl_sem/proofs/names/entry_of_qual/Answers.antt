@@ -1,4 +1,4 @@
-use Rattle.std.proofs.Common.{Ok, Option, None}
+use Rattle.std.proofs.Common.{Ok, Option, None, subst, sym}
 use Rattle.std.specs.Option.{IfSome}
 use Rattle.m2_base.specs.Statics.Lookup.{Entry}
 use Rattle.m2_base.specs.Statics.TypeNames.{qualified}
@@ -7,6 +7,8 @@ use Rattle.m2_base.specs.declared.replies.Ask.TheVariants.{Known}
 use Rattle.type_rules.specs.Scenes.{IsRowOf}
 use Rattle.const_eval.specs.Analyses.{Analysed}
 use Rattle.const_eval.proofs.Analysing.{and_after}
+use Rattle.m2_base.specs.States.{Frame}
+use Rattle.type_rules.specs.Sites.{SuitsSite}
 use Rattle.decl_sem.proofs.names.entry_of_qual.Goals as goal
 
 pub returns : goal.returns
@@ -22,3 +24,10 @@ returns g c =
       there = rw c.in-Known.is at c.in-Ok.ensures.row;
     } in
     and_after (λ k. use_of k None q.first.name q.first.at) (λ e k. qualified k q.first.at q.second e) c.qualified.result first c.qualified.ensures
+
+pub qualified-requires-clause-suits : goal.qualified-requires-clause-suits
+qualified-requires-clause-suits g c = subst (λ (f : Frame). SuitsSite f c.args.site.now) (sym c.use_name.ensures.works.keeps.frame) c.requires.suits
+
+pub returns-in-DontKnowYet : goal.returns-in-DontKnowYet
+returns-in-DontKnowYet g c =
+    record { works = c.use_name.ensures.works; waits = rw c.in-DontKnowYet.is at c.in-Ok.ensures.waits; told = rw c.in-DontKnowYet.is at c.in-Ok.ensures.told; there = tt }

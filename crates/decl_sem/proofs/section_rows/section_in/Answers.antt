@@ -3,7 +3,7 @@ use Rattle.std.proofs.Common.{rules}
 use Rattle.m2_base.specs.declared.replies.Ask.TheVariants.{Known}
 use Rattle.m2_base.specs.Statics.Shapes.{open_shapes}
 use Rattle.decl_sem.proofs.ParameterLists as parameters
-use Rattle.decl_sem.proofs.Pieces.{making_front}
+use Rattle.decl_sem.proofs.Pieces.{making_front, waiting}
 use Rattle.decl_sem.proofs.SectionLists.{names_making, section_piece, type_stands}
 use Rattle.decl_sem.proofs.section_rows.section_in.Goals as goal
 
@@ -27,3 +27,6 @@ pub returns-in-Err-put_parameters : goal.returns-in-Err-put_parameters
 returns-in-Err-put_parameters g c =
     let same : c.deref.result.now ≡ c.args.section.now.names.items = search rules in
     section_piece c.args.own c.args.section.now c.deref.result.now (Err c.in-Err-put_parameters.memory) same c.requires.making (rw c.in-Ok-Known.field-0-is at c.in-Ok-Known.ensures) c.in-Err-put_parameters.ensures
+
+pub returns-in-Ok-DontKnowYet : goal.returns-in-Ok-DontKnowYet
+returns-in-Ok-DontKnowYet g c = waiting (rw c.in-Ok-DontKnowYet.field-0-is at c.in-Ok-DontKnowYet.ensures)

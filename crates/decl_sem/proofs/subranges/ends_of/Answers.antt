@@ -4,7 +4,8 @@ use Rattle.type_rules.specs.Sites.{context_of, source_of}
 use Rattle.type_rules.proofs.Compatibles.{told_later}
 use Rattle.type_rules.proofs.Reading.{Reads-trans, Waits_read}
 use Rattle.const_eval.proofs.Later.{SuitsSite_read}
-use Rattle.decl_sem.specs.Bounds.{IsEndOf}
+use Rattle.decl_sem.specs.Bounds.{IsEndOf, IsEnd}
+use Rattle.m2_base.specs.States.{Frame}
 use Rattle.decl_sem.proofs.subranges.ends_of.Goals as goal
 
 pub end_of-requires-2-clause-suits : goal.end_of-requires-2-clause-suits
@@ -32,3 +33,7 @@ returns-clause-high g c made in_hand told =
     let mid = (g.S.Scopes.state c.end_of.new.scopes).frame in
     subst (λ (o : Operand). IsEndOf (context_of f made s) o c.in-Known-end_of.value) (c.char_of_string-2.ensures.told (source_of s.texts.now) refl)
     (told_later f mid (λ h rows. IsEndOf (context_of h rows s) c.char_of_string-2.result c.in-Known-end_of.value) c.in-Known.ensures.reads.keeps.frame c.in-Known-end_of.ensures.told made in_hand told)
+
+pub returns-clause-there : goal.returns-clause-there
+returns-clause-there g c =
+    (c.in-Known.ensures.there, subst (λ (f : Frame). IsEnd f c.in-Known-end_of.value) c.in-Known.ensures.reads.keeps.frame c.in-Known-end_of.ensures.there)

@@ -1,8 +1,10 @@
-use Rattle.std.proofs.Common.{◌≡◌, ◌<◌, ◌≤◌, ◌^◌, [], ◌∷◌, List, Some, None, false, ap, subst, sym, ◌∙◌, arith, length}
+use Rattle.std.proofs.Common.{refl, ◌≡◌, ◌<◌, ◌≤◌, ◌^◌, [], ◌∷◌, List, Some, None, false, ap, subst, sym, ◌∙◌, arith, length}
+use Rattle.std.proofs.lemmas.Result.{IfOk-from_err}
 use Rattle.m2_base.specs.Names.{number_in, standard_names, with_name}
 use Rattle.m2_base.specs.Tokens.{AreTokens}
 use Rattle.m2_base.specs.Units.{IsUnit, TextOf, unit_of}
 use Rattle.m2_lex.specs.LoneTexts.{IsLoneText}
+use Rattle.m2_lex.proofs.FaultLaws.{err_not_ok, of_memory, ok_not_err, same_fault}
 use Rattle.m2_lex.proofs.TextUnit.{few_with, is_lone, lone_unit, standard_few}
 use Rattle.m2_lex.proofs.lone.lone_text.Goals as goal
 
@@ -45,3 +47,24 @@ returns-clause-unit c =
     c.new-3.ensures ∙ ap (λ list. unit_of names list c.new-2.result.items None) c.in_ok-list.ensures.items
     ∙ ap (λ order. unit_of names (record { name = number; definition = false; tokens = tokens } ∷ []) order None) c.new-2.ensures.items in
     subst (IsLoneText name text) (sym whole) (is_lone name text names number tokens numbered are)
+
+pub returns-clause-too_many : goal.returns-clause-too_many
+returns-clause-too_many c = λ h. ok_not_err _ c.new-3.result _ refl h
+
+pub returns-clause-not_too_many : goal.returns-clause-not_too_many
+returns-clause-not_too_many c = c.in_ok-tokens.ensures.not_too_many
+
+pub returns-in_err-list-clause-unit : goal.returns-in_err-list-clause-unit
+returns-in_err-list-clause-unit c = IfOk-from_err c.from_residual-in_err-list.result _ c.from_residual-in_err-list.ensures.0
+
+pub returns-in_err-list-clause-too_many : goal.returns-in_err-list-clause-too_many
+returns-in_err-list-clause-too_many c = of_memory c.from_residual-in_err-list.result c.from_residual-in_err-list.ensures.1
+
+pub returns-in_err-list-clause-not_too_many : goal.returns-in_err-list-clause-not_too_many
+returns-in_err-list-clause-not_too_many c = err_not_ok c.from_residual-in_err-list.result c.from_residual-in_err-list.ensures.0
+
+pub returns-in_err-tokens-clause-unit : goal.returns-in_err-tokens-clause-unit
+returns-in_err-tokens-clause-unit c = IfOk-from_err c.from_residual-in_err-tokens.result _ c.from_residual-in_err-tokens.ensures.0
+
+pub returns-in_err-tokens-clause-too_many : goal.returns-in_err-tokens-clause-too_many
+returns-in_err-tokens-clause-too_many c = same_fault c.from_residual-in_err-tokens.result c.lex.result c.in_err-tokens.field-0.0 c.from_residual-in_err-tokens.ensures.1 c.in_err-tokens.was c.lex.ensures.too_many

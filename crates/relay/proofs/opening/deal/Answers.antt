@@ -1,10 +1,12 @@
-use Rattle.std.proofs.Common.{rules, ◌≡◌, ◌∙◌, ◌+◌, ◌-◌, ◌<◌, ◌≤◌, ap, arith, [], ℕ, sum_by}
+use Rattle.std.proofs.Common.{rules, ◌≡◌, ◌∙◌, ◌+◌, ◌-◌, ◌<◌, ◌≤◌, ap, arith, [], ℕ, All, subst, sum_by, sym}
+use Rattle.std.proofs.lemmas.List.Elements.{All-nil}
 use Rattle.std.specs.Prelude.{vec_len}
 use Rattle.crossbeam_queue.specs.Passes.{view}
 use Rattle.relay.specs.Places.{knows}
-use Rattle.relay.specs.Hands.{jobs_of, part}
+use Rattle.relay.specs.Hands.{jobs_of, part, IsEmpty, IsHandOf}
 use Rattle.relay.proofs.KeptRule.{forks}
 use Rattle.relay.proofs.Dealt.{dealt, pushed}
+use Rattle.m2_base.proofs.Without.{if_ok_of_err}
 use Rattle.relay.proofs.opening.deal.Goals as goal
 
 pub another-theirs-requires-clause-rule : goal.another-theirs-requires-clause-rule
@@ -50,3 +52,25 @@ returns g c =
       p.1,
       search rules,
     )
+
+pub loop-made-init : goal.loop-made-init
+loop-made-init g c =
+    let e = c.in_ok-all.ensures in let r = c.args.relay.now in
+    let cap = c.capacity-room.ensures in let room = r.room in (
+      omega arith,
+      c.requires.hands.0,
+      omega arith,
+      c.requires.pass.0,
+      c.requires.pass.1,
+      subst (λ hands. All (IsHandOf g.J.Job.number g.J.Job.stays r) hands) (sym e.items) (All-nil _),
+      subst (λ hands. All IsEmpty hands) (sym e.items) (All-nil _),
+      ap (λ hands. sum_by part hands + 1) e.items,
+      ap (λ n. n + 1) e.len,
+      e.capacity,
+    )
+
+pub returns-in_err-empty_hand : goal.returns-in_err-empty_hand
+returns-in_err-empty_hand g c = if_ok_of_err _ c.from_residual-in_err-empty_hand.result c.from_residual-in_err-empty_hand.ensures.0
+
+pub returns-in_err-empty_hand-2 : goal.returns-in_err-empty_hand-2
+returns-in_err-empty_hand-2 g c = if_ok_of_err _ c.from_residual-in_err-empty_hand-2.result c.from_residual-in_err-empty_hand-2.ensures.0

@@ -1,4 +1,4 @@
-use Rattle.std.proofs.Common.{◌≡◌, Some, if◌then◌else◌, sym, ◌∙◌}
+use Rattle.std.proofs.Common.{Some, if◌then◌else◌, sym, ◌∙◌}
 use Rattle.std.specs.HashMap.{get_by}
 use Rattle.scope_core.proofs.KeyTests.{get-same_key, same_key}
 use Rattle.scope_core.proofs.kept.put_ordinal.Goals as goal

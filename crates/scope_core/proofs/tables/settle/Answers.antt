@@ -1,5 +1,5 @@
-use Rattle.std.proofs.Common.{refl}
-use Rattle.scope_core.proofs.Runs.{part_step, part_stays, part_countable}
+use Rattle.std.proofs.Common.{◌∙◌, refl, sym}
+use Rattle.scope_core.proofs.Runs.{part_all, part_step, part_stays, part_countable}
 use Rattle.scope_core.proofs.tables.settle.Goals as goal
 
 pub step-requires-clause-countable : goal.step-requires-clause-countable
@@ -16,3 +16,7 @@ returns-in_err-step-clause-stays c =
 pub returns-clause-stays : goal.returns-clause-stays
 returns-clause-stays c =
     part_stays _ c.loop-event.tables _ _ _ c.args.chain.now c.args.name c.loop-event.invariant refl
+
+pub returns-clause-ok : goal.returns-clause-ok
+returns-clause-ok c =
+    part_all _ c.loop-event.tables _ _ c.loop-event.invariant (sym c.loop-event.event-iterator.rest.ok.0 ∙ c.in-None.ensures.steps.0)

@@ -28,3 +28,32 @@ returns-clause-told g c =
     (λ made in_hand told. let scene = scene_of f made c.args.around.now in
     ap (spec_takes_other scene c.args.to) c.operand_type.ensures
     ∙ ap (λ b. b || spec_takes_other scene c.args.to (spec_type c.args.operand.now)) (sym c.if-value.false ∙ c.in-Known.ensures.told made in_hand told))
+
+pub compatible-requires-clause-x : goal.compatible-requires-clause-x
+compatible-requires-clause-x g c = c.requires.operand
+
+pub compatible-requires-clause-y : goal.compatible-requires-clause-y
+compatible-requires-clause-y g c = c.requires.to
+
+pub compatible-requires-clause-suits : goal.compatible-requires-clause-suits
+compatible-requires-clause-suits g c = c.requires.suits
+
+pub operand_type-requires : goal.operand_type-requires
+operand_type-requires g c = tt
+
+pub returns-in-DontKnowYet : goal.returns-in-DontKnowYet
+returns-in-DontKnowYet g c =
+    record {
+      reads = c.in-DontKnowYet.ensures.reads;
+      waits = c.in-DontKnowYet.ensures.waits;
+      told = λ made in_hand told. tt;
+    }
+
+pub returns-then-value : goal.returns-then-value
+returns-then-value g c =
+    record {
+      reads = c.in-Known.ensures.reads;
+      waits = tt;
+      told = λ made in_hand told. (let scene = scene_of (g.S.Scopes.state c.args.scopes.now).frame made c.args.around.now in
+          ap (λ b. b || spec_takes_other scene c.args.to (spec_type c.args.operand.now)) (sym c.if-value.true ∙ c.in-Known.ensures.told made in_hand told));
+    }

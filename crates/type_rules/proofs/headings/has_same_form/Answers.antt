@@ -4,18 +4,9 @@ use Rattle.type_rules.specs.Forms.{is_bare, same_forms}
 use Rattle.type_rules.specs.Scenes.{scene_of}
 use Rattle.type_rules.proofs.Compatibles.{told_as}
 use Rattle.type_rules.proofs.Procedures.{both_same, left_bare, none_same, right_bare}
-use Rattle.type_rules.proofs.Later.{Suits_read, Waits_asked}
+use Rattle.type_rules.proofs.Later.{Suits_read, Waits_asked, IsFormHere_read}
 use Rattle.type_rules.proofs.Reading.{Reads-trans}
 use Rattle.type_rules.proofs.headings.has_same_form.Goals as goal
-
-pub same_form-requires-clause-suits : goal.same_form-requires-clause-suits
-same_form-requires-clause-suits g c = Suits_read c.in-Known.ensures.reads c.requires.suits
-
-pub is_bare-requires-clause-suits : goal.is_bare-requires-clause-suits
-is_bare-requires-clause-suits g c = Suits_read c.in-Known.ensures.reads c.requires.suits
-
-pub is_bare-requires-in-None-Some-clause-suits : goal.is_bare-requires-in-None-Some-clause-suits
-is_bare-requires-in-None-Some-clause-suits g c = Suits_read c.in-Known.ensures.reads c.requires.suits
 
 pub returns-in-Some-Some-clause-reads : goal.returns-in-Some-Some-clause-reads
 returns-in-Some-Some-clause-reads g c = Reads-trans c.in-Known.ensures.reads c.same_form.ensures.reads
@@ -63,7 +54,34 @@ returns-in-None-Some-clause-told g c =
     (λ made in_hand told. right_bare (scene_of f made c.args.around.now) c.args.x c.args.y y
     (sym (c.in-Known.ensures.left made in_hand told) ∙ c.in-None-Some.is-0) (sym (c.in-Known.ensures.right made in_hand told) ∙ c.in-None-Some.is-1))
 
-pub returns-in-None-None-clause-told : goal.returns-in-None-None-clause-told
-returns-in-None-None-clause-told g c made in_hand told =
-    none_same (scene_of (g.S.Scopes.state c.args.scopes.now).frame made c.args.around.now) c.args.x c.args.y
-    (sym (c.in-Known.ensures.left made in_hand told) ∙ c.in-None-None.is-0) (sym (c.in-Known.ensures.right made in_hand told) ∙ c.in-None-None.is-1)
+pub forms_of-requires : goal.forms_of-requires
+forms_of-requires g c = record { suits = c.requires.suits; x = c.requires.x; y = c.requires.y }
+
+pub returns-in-DontKnowYet : goal.returns-in-DontKnowYet
+returns-in-DontKnowYet g c =
+    record {
+      reads = c.in-DontKnowYet.ensures.reads;
+      waits = c.in-DontKnowYet.ensures.waits;
+      told = λ made in_hand told. tt;
+    }
+
+pub returns-in-None-None : goal.returns-in-None-None
+returns-in-None-None g c =
+    record {
+      reads = c.in-Known.ensures.reads;
+      waits = tt;
+      told = λ made in_hand told. none_same (scene_of (g.S.Scopes.state c.args.scopes.now).frame made c.args.around.now) c.args.x c.args.y
+          (sym (c.in-Known.ensures.left made in_hand told) ∙ c.in-None-None.is-0) (sym (c.in-Known.ensures.right made in_hand told) ∙ c.in-None-None.is-1);
+    }
+
+pub same_form-requires : goal.same_form-requires
+same_form-requires g c =
+    record { suits = Suits_read c.in-Known.ensures.reads c.requires.suits; x = IsFormHere_read c.in-Known.ensures.reads (rw c.in-Some-Some.is-0 at c.in-Known.ensures.here.0); y = IsFormHere_read c.in-Known.ensures.reads (rw c.in-Some-Some.is-1 at c.in-Known.ensures.here.1) }
+
+pub is_bare-requires : goal.is_bare-requires
+is_bare-requires g c =
+    record { suits = Suits_read c.in-Known.ensures.reads c.requires.suits; form = IsFormHere_read c.in-Known.ensures.reads (rw c.in-Some-None.is-0 at c.in-Known.ensures.here.0) }
+
+pub is_bare-requires-in-None-Some : goal.is_bare-requires-in-None-Some
+is_bare-requires-in-None-Some g c =
+    record { suits = Suits_read c.in-Known.ensures.reads c.requires.suits; form = IsFormHere_read c.in-Known.ensures.reads (rw c.in-None-Some.is-1 at c.in-Known.ensures.here.1) }

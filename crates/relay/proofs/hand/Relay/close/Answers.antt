@@ -1,10 +1,15 @@
-use Rattle.std.proofs.Common.{rules, ◌≡◌, ◌∷◌, arith}
+use Rattle.std.proofs.Common.{rules, ◌≡◌, ◌∙◌, ◌+◌, ◌∷◌, ℕ, ap, arith, sum_by, sym}
 use Rattle.std.specs.Vec.Iter.{into_iter_items}
 use Rattle.std.proofs.lemmas.List.Sorted.{All-permutation}
 use Rattle.relay.specs.Places.{ComesFrom}
 use Rattle.relay.specs.Hands.{jobs_of, part, Rests}
 use Rattle.relay.proofs.Closed.{uncons, less, popped, in_order, are_later}
+use Rattle.m2_base.proofs.Without.{none_of}
 use Rattle.relay.proofs.hand.Relay.close.Goals as goal
+
+-- where the others have nothing
+alone : (a b n : ℕ) → a + b ≡ n → b ≡ 0 → a ≡ n
+alone a b n e z = omega arith
 
 pub loop-hand-init : goal.loop-hand-init
 loop-hand-init g c =
@@ -34,3 +39,11 @@ returns-clause-jobs g c =
     let order = in_order g.J.Job.number _ _ _ c.by_number.ensures.permutation c.by_number.ensures.rises c.drain.ensures.once in
     are_later g.J.Job.number g.J.Job.stays (jobs_of c.args.self) _ g.met.J.Job.number_stays c.requires.all.order order
     (All-permutation (ComesFrom g.J.Job.stays (jobs_of c.args.self)) _ _ c.by_number.ensures.permutation c.drain.ensures.jobs)
+
+pub loop-hand-smaller : goal.loop-hand-smaller
+loop-hand-smaller g c = (c.in-Some-hand.ensures.goes.on tt).2
+
+pub drain-requires-clause-whole : goal.drain-requires-clause-whole
+drain-requires-clause-whole g c =
+    let none = none_of _ (sym c.loop-hand.hand-iterator.rest.ok.0 ∙ c.in-None.ensures.steps.0) in
+    alone _ _ _ c.loop-hand.invariant.4 (ap (sum_by part) none)

@@ -3,7 +3,7 @@ use Rattle.std.specs.Prelude.{vec_capacity}
 use Rattle.crossbeam_queue.specs.Passes.{view}
 use Rattle.relay.specs.Places.{ComesFrom}
 use Rattle.relay.proofs.KeptRule.{takes, tells}
-use Rattle.relay.proofs.Carrying.{drained, emptied, listed}
+use Rattle.relay.proofs.Carrying.{drained, emptied, free, listed}
 use Rattle.relay.proofs.hand.Relay.drain.Goals as goal
 
 pub pop_as-requires-clause-rule : goal.pop_as-requires-clause-rule
@@ -34,3 +34,11 @@ returns-in-None-pop_as-clause-once g c =
 pub returns-in-None-pop_as-clause-jobs : goal.returns-in-None-pop_as-clause-jobs
 returns-in-None-pop_as-clause-jobs g c =
     let inv = c.loop.invariant in subst (λ js. All (ComesFrom g.J.Job.stays js) c.loop.kept.items) inv.4 inv.2.of
+
+pub loop-init : goal.loop-init
+loop-init g c =
+    let is = c.requires.hand.0 in
+    (tt, is.pass, free g.J.Job.number g.J.Job.stays _ _ _ _ c.requires.hand.1 is.carries, c.requires.whole, is.jobs)
+
+pub loop-smaller : goal.loop-smaller
+loop-smaller g c = (c.in-Some.ensures.goes.on tt).2

@@ -1,13 +1,14 @@
 use Rattle.std.proofs.Common.{◌≡◌, ℕ, ◌+◌, ◌-◌, ◌<◌, List, [], ◌∷◌, ◌++◌, length, get_or, sym, ap, ◌∙◌, subst, arith, length-append}
-use Rattle.scope_table.specs.Opening.{IsStart}
+use Rattle.scope_table.specs.Opening.{IsEmptyStart, IsStart}
 use Rattle.scope_table.specs.Plays.{first_right, other_rights, note_of, told_of}
-use Rattle.scope_table.specs.Rule.{upto}
+use Rattle.scope_table.specs.Rule.{IsSound, empty_at, scopes, upto}
 use Rattle.scope_table.specs.Seats.{key_of, view, IsFirst}
 use Rattle.scope_table.specs.declared.table.TableSeat.{TableSeat}
 use Rattle.scope_table.specs.declared.view.View.{View}
 use Rattle.scope_table.proofs.Rooms.{heads_within}
 use Rattle.scope_table.proofs.Cuts.{splits_right, splits_note}
-use Rattle.scope_table.proofs.Opening.{empty_other, start_note, start_first, start_other, start_told, rest_next, rest_first, pushed_each}
+use Rattle.scope_table.proofs.Opening.{empty_first, empty_other, start_note, start_first, start_other, start_told, rest_next, rest_first, pushed_each}
+use Rattle.m2_base.proofs.Without.{if_ok_of_err}
 use Rattle.scope_table.proofs.table.ScopeTable.seats.Goals as goal
 
 pub split_seat-zero-requires : goal.split_seat-zero-requires
@@ -70,3 +71,52 @@ loop-scope-preserved c =
           (pushed_each (IsFirst c.args.self.now) c.loop-scope.seats.items c.make_seat.result j inv.all inv.each here);
       all = ap length items ∙ (length-append c.loop-scope.seats.items (c.make_seat.result ∷ []) ∙ ap (λ (m : ℕ). m + 1) inv.all);
     }
+
+pub returns-in_err-push : goal.returns-in_err-push
+returns-in_err-push c = if_ok_of_err _ c.from_residual-in_err-push.result c.from_residual-in_err-push.ensures.0
+
+pub returns-in_err-push-2 : goal.returns-in_err-push-2
+returns-in_err-push-2 c = if_ok_of_err _ c.from_residual-in_err-push-2.result c.from_residual-in_err-push-2.ensures.0
+
+pub make_seat-requires-clause-wide : goal.make_seat-requires-clause-wide
+make_seat-requires-clause-wide c =
+    let a = key_of c.args.self.now in let v = c.loop-scope.first.me.0 in
+    let right : c.split_seat-seat.result.me.0 ≡ first_right v = ap (λ m. m.0) c.split_seat-seat.ensures.4 in
+    let start : IsStart a c.split_seat-seat.result.me.0 = subst (IsStart a) (sym right) (start_first a v c.loop-scope.invariant.start) in
+    start.wide ∙ ap scopes (sym start.about)
+
+pub make_seat-requires-clause-sound : goal.make_seat-requires-clause-sound
+make_seat-requires-clause-sound c =
+    let a = key_of c.args.self.now in let v = c.loop-scope.first.me.0 in
+    let right : c.split_seat-seat.result.me.0 ≡ first_right v = ap (λ m. m.0) c.split_seat-seat.ensures.4 in
+    let start : IsStart a c.split_seat-seat.result.me.0 = subst (IsStart a) (sym right) (start_first a v c.loop-scope.invariant.start) in
+    start.sound
+
+pub make_seat-requires-clause-scope : goal.make_seat-requires-clause-scope
+make_seat-requires-clause-scope c =
+    let a = key_of c.args.self.now in let v = c.loop-scope.first.me.0 in
+    let right : c.split_seat-seat.result.me.0 ≡ first_right v = ap (λ m. m.0) c.split_seat-seat.ensures.4 in
+    let start : IsStart a c.split_seat-seat.result.me.0 = subst (IsStart a) (sym right) (start_first a v c.loop-scope.invariant.start) in
+    subst (λ n. c.loop-scope.scope < n) (sym (ap scopes start.about ∙ c.requires.many.0)) c.loop-scope-test.true
+
+pub make_seat-requires-clause-empty : goal.make_seat-requires-clause-empty
+make_seat-requires-clause-empty c =
+    let a = key_of c.args.self.now in let v = c.loop-scope.first.me.0 in
+    let right : c.split_seat-seat.result.me.0 ≡ first_right v = ap (λ m. m.0) c.split_seat-seat.ensures.4 in
+    let start : IsStart a c.split_seat-seat.result.me.0 = subst (IsStart a) (sym right) (start_first a v c.loop-scope.invariant.start) in
+    start.others c.loop-scope.scope c.loop-scope.auto.scope (subst (λ n. c.loop-scope.scope < n) (sym c.requires.many.0) c.loop-scope-test.true)
+    ∙ ap (λ b. empty_at b c.loop-scope.scope) (sym start.about)
+
+pub make_seat-zero-requires-clause-mine : goal.make_seat-zero-requires-clause-mine
+make_seat-zero-requires-clause-mine c =
+    let v = c.args.first.me.0 in
+    ap (λ m. m.0.rights) c.split_seat-zero.ensures.4
+    ∙ rest_first v.rights 0 c.args.many c.requires.many.1 (c.requires.rights ∙ ap (upto 0) (omega arith))
+
+pub make_seat-zero-requires-clause-sound : goal.make_seat-zero-requires-clause-sound
+make_seat-zero-requires-clause-sound c = subst IsSound (sym (ap (λ m. m.0) c.split_seat-zero.ensures.4)) c.requires.sound
+
+pub fill_standard-requires-clause-start : goal.fill_standard-requires-clause-start
+fill_standard-requires-clause-start c =
+    let a = key_of c.args.self.now in let v = c.args.first.me.0 in
+    subst (IsEmptyStart a) (sym (ap (λ s. s.me.0) c.make_seat-zero.ensures.0 ∙ ap (λ m. m.0) c.split_seat-zero.ensures.4)) (empty_first a v c.requires.start)
