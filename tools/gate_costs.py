@@ -194,54 +194,61 @@ def function_of(module, functions):
     return next((it for it in fronts if it in functions), module)
 
 
-def show_functions(name, kept, looks, count):
-    """Shows what the functions cost whose files a check kept."""
+def spent_on_modules(name, kept, looks):
+    """The modules whose files a check kept, in their order, each with what it cost; the first with all before it."""
     files = []
     for folder, _, names in os.walk(kept):
         files += [(os.stat(f"{folder}/{it}").st_mtime, it) for it in names if it.endswith(".oantt")]
-    modules = {it: re.sub(rf"\ARattle-{name}-|(\.decls)?\.oantt\Z", "", it) for _, it in files}
-    functions = {it.removesuffix(".Statement") for it in modules.values() if it.endswith(".Statement")}
+    spent, before = [], 0
+    for moment, file in sorted(files):
+        spent.append((re.sub(rf"\ARattle-{name}-|(\.decls)?\.oantt\Z", "", file), at(looks, moment) - before))
+        before = at(looks, moment)
+    return spent
+
+
+def show_functions(name, kept, looks, count):
+    """Shows what the functions cost whose files a check kept."""
+    spent = spent_on_modules(name, kept, looks)
+    functions = {it.removesuffix(".Statement") for it, _ in spent if it.endswith(".Statement")}
     functions |= {it.replace("proofs.", "specs.contracts.", 1) for it in functions}
-    files.sort()
-    parts, before = collections.defaultdict(collections.Counter), at(looks, files[0][0]) if files else 0
-    costs = collections.Counter({"(up to the first file)": before})
-    for moment, file in files[1:]:
-        spent, before = at(looks, moment) - before, at(looks, moment)
-        function = function_of(modules[file], functions).replace("specs.contracts.", "proofs.", 1)
-        costs[function] += spent
-        parts[function][modules[file].rpartition(".")[2]] += spent
+    parts = collections.defaultdict(collections.Counter)
+    costs = collections.Counter({"(up to the first file)": spent[0][1] if spent else 0})
+    for module, seconds in spent[1:]:
+        function = function_of(module, functions).replace("specs.contracts.", "proofs.", 1)
+        costs[function] += seconds
+        parts[function][module.rpartition(".")[2]] += seconds
     print(f"\n{'seconds':>8}  of {name}'s {looks[-1][1]:.0f}: the function, and its parts that cost most")
-    for function, spent in costs.most_common(count):
+    for function, seconds in costs.most_common(count):
         most = ", ".join(f"{part} {it:.0f}" for part, it in parts[function].most_common(3) if it >= 1)
-        print(f"{spent:8.1f}  {function.removeprefix('proofs.').replace('.', '::')}{f'  ({most})' if most else ''}")
+        print(f"{seconds:8.1f}  {function.removeprefix('proofs.').replace('.', '::')}{f'  ({most})' if most else ''}")
 
 
-def check_anew(name, count):
-    """Checks a crate from nothing in a room, and shows its functions."""
-    with rooms.Rooms("costs") as shelf:
-        with rooms.held([*rooms.below(name), name]):
-            shelf.take([*rooms.below(name), name])
-            folder = shelf.open(name)
-        root = f"{folder}/src/{'main' if rooms.is_program(name) else 'lib'}.rt"
-        with open(root, encoding="utf-8") as file:
-            text = file.read()
-        # (as another text, so that rt begins with nothing that it kept of this one)
-        os.remove(root)
-        with open(root, "w", encoding="utf-8") as file:
-            file.write(f"{text}\n// checked anew {time.time()}\n")
-        kept = f"{folder}/out/incremental"
-        os.makedirs(kept)
-        for it in rooms.uses(name):
-            subprocess.run(["rt", "lib", "--jobs", "1"], cwd=f"{shelf.folder}/{name}/crates/{it}", check=True)
-        costs, status, _, _ = watch(["rt", "check", "--jobs", "1"], cwd=folder)
-        show_functions(name, kept, costs.looks, count)
-    return status
+def check_anew(shelf, name):
+    """Checks a crate from nothing in a room. Gives its folder there, the looks at what was used, and the status."""
+    with rooms.held([*rooms.below(name), name]):
+        shelf.take([*rooms.below(name), name])
+        folder = shelf.open(name)
+    root = f"{folder}/src/{'main' if rooms.is_program(name) else 'lib'}.rt"
+    with open(root, encoding="utf-8") as file:
+        text = file.read()
+    # (as another text, so that rt begins with nothing that it kept of this one)
+    os.remove(root)
+    with open(root, "w", encoding="utf-8") as file:
+        file.write(f"{text}\n// checked anew {time.time()}\n")
+    os.makedirs(f"{folder}/out/incremental")
+    for it in rooms.uses(name):
+        subprocess.run(["rt", "lib", "--jobs", "1"], cwd=f"{shelf.folder}/{name}/crates/{it}", check=True)
+    costs, status, _, _ = watch(["rt", "check", "--jobs", "1"], cwd=folder)
+    return folder, costs.looks, status
 
 
 def main():
     words = sys.argv[1:]
     if words and words[0] in rooms.ROWS:
-        return check_anew(words[0], int(words[1]) if len(words) > 1 else 20)
+        with rooms.Rooms("costs") as shelf:
+            folder, looks, status = check_anew(shelf, words[0])
+            show_functions(words[0], f"{folder}/out/incremental", looks, int(words[1]) if len(words) > 1 else 20)
+        return status
     if words and (words[0] != "--" or len(words) == 1):
         sys.exit(__doc__.split("\n\n")[1])
     os.chdir(rooms.ROOT)
