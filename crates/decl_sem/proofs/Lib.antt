@@ -33,6 +33,7 @@ pub mod Namings
 pub mod NextRows
 pub mod NoTypeNames
 pub mod OneRows
+pub mod OtherMeanings
 pub mod OwnHeadings
 pub mod OwnRows
 pub mod OwnParameterLists

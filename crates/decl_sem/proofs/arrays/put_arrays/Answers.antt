@@ -1,5 +1,9 @@
-use Rattle.decl_sem.proofs.ArrayLists.{all_arrays, array_making, arrays_failed, arrays_waiting, index_behind, one_more_array}
+use Rattle.decl_sem.proofs.ArrayLists.{all_arrays, array_making, arrays_failed, arrays_waiting, index_behind, one_more_array, arrays_start}
 use Rattle.decl_sem.proofs.Asking.{first_made}
+use Rattle.std.proofs.Common.{◌∙◌, [], ◌∷◌, ap, arith, length, Iter}
+use Rattle.std.proofs.lemmas.List.{length-append}
+use Rattle.std.specs.declared.iter.Rev.{Rev}
+use Rattle.m2_base.specs.declared.rows.Place.{Place}
 use Rattle.decl_sem.proofs.arrays.put_arrays.Goals as goal
 
 pub put_array-requires-clause-making : goal.put_array-requires-clause-making
@@ -25,3 +29,15 @@ returns g c = all_arrays c.args.at c.args.indexes.now c.loop-index.index-iterato
 
 pub put_array-requires-clause-of : goal.put_array-requires-clause-of
 put_array-requires-clause-of g c = c.loop-index.invariant.elem
+
+pub loop-index-init : goal.loop-index-init
+loop-index-init g c =
+    arrays_start c.args.at c.args.indexes.now c.into_iter-index-iterator.result.iter.rest.now c.args.of
+    (ap (λ (r : Rev (Iter Place)). r.iter.rest.now) c.into_iter-index-iterator.ensures.into_iter_gives ∙ ap (λ (i : Iter Place). i.rest.now) c.rev-index-items.ensures.source ∙ c.iter.ensures.rest)
+    c.requires.making c.requires.indexes c.requires.of
+
+pub loop-index-smaller : goal.loop-index-smaller
+loop-index-smaller g c =
+    let l = length-append c.next.new.self.iter.rest.now (c.in-Some.index.now ∷ []) in
+    let one = ap length c.in-Some.ensures.steps in
+    omega (arith, l, one)

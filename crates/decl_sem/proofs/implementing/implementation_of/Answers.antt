@@ -1,7 +1,7 @@
 use Rattle.type_rules.proofs.Later.{Suits_read, Waits_asked}
-use Rattle.type_rules.proofs.Reading.{Reads-trans, Waits_read}
+use Rattle.type_rules.proofs.Reading.{Reads-trans, Waits_read, Reads-refl}
 use Rattle.std.specs.Option.{IfSome}
-use Rattle.std.proofs.Common.{◌≡◌, ◌∙◌, Bool, Option, subst, sym, if◌then◌else◌}
+use Rattle.std.proofs.Common.{◌≡◌, ◌∙◌, Bool, Option, subst, sym, if◌then◌else◌, ap}
 use Rattle.m2_base.specs.declared.rows.RowMeaning.{RowMeaning}
 use Rattle.m2_base.specs.States.{Frame}
 use Rattle.m2_base.specs.Statics.Closing.{implemented, implements_heading, is_implemented, type_implemented}
@@ -10,6 +10,7 @@ use Rattle.type_rules.specs.Asks.{WhereKnown}
 use Rattle.type_rules.specs.Scenes.{IsRowOf, rows_of, scene_of}
 use Rattle.type_rules.proofs.Compatibles.{told_later}
 use Rattle.decl_sem.specs.Implementing.{implemented_view}
+use Rattle.decl_sem.proofs.OtherMeanings.{none_promised}
 use Rattle.decl_sem.proofs.implementing.implementation_of.Goals as goal
 
 pub entry_of_module-requires-clause-suits : goal.entry_of_module-requires-clause-suits
@@ -74,3 +75,61 @@ returns-in-Known-entry_of_module-clause-told g c made in_hand told =
     (told_later f first (λ h rows. c.in-Known-entry_of_module.value ≡ entry_in (rows_of h rows) a.module name) c.is_opaque_before.ensures.reads.keeps.frame c.in-Known-entry_of_module.ensures.told made in_hand told)
     (told_later f second (λ h rows. WhereKnown how (λ i. implemented_view i ≡ type_implemented (scene_of h rows a) c.in-Known-entry_of_module.value))
     (Reads-trans c.is_opaque_before.ensures.reads c.entry_of_module.ensures.reads).keeps.frame c.type_implemented.ensures.told made in_hand told)))
+
+pub returns-in_default : goal.returns-in_default
+returns-in_default g c =
+    record {
+      reads = Reads-refl _;
+      waits = tt;
+      told = λ made in_hand told.
+          let scene = scene_of (g.S.Scopes.state c.args.scopes.now).frame made c.args.around.now in
+          none_promised scene c.args.place.scope c.args.place.ordinal c.args.row.now.name c.read_row.result c.in_default.not-TypeName c.in_default.not-Proc
+          ∙ ap (implemented scene c.args.place.scope c.args.place.ordinal c.args.row.now.name) c.read_row.ensures;
+    }
+
+pub read_row-requires : goal.read_row-requires
+read_row-requires g c = c.requires.row.said.small
+
+pub is_opaque_before-requires-clause-suits : goal.is_opaque_before-requires-clause-suits
+is_opaque_before-requires-clause-suits g c = c.requires.suits
+
+pub heading_implemented-requires-clause-row : goal.heading_implemented-requires-clause-row
+heading_implemented-requires-clause-row g c =
+    subst (λ (f : Frame). IfSome c.in-Known-entry_of_module-2.value (λ entry. IsRowOf f entry.0 entry.1)) (sym c.entry_of_module-in-Proc.ensures.reads.keeps.frame)
+    c.in-Known-entry_of_module-2.ensures.row
+
+pub entry_of_module-requires-clause-complete : goal.entry_of_module-requires-clause-complete
+entry_of_module-requires-clause-complete g c = ap (λ (f : Frame). f.closed) c.in-Known.ensures.reads.keeps.frame ∙ c.requires.complete
+
+pub entry_of_module-requires-clause-named : goal.entry_of_module-requires-clause-named
+entry_of_module-requires-clause-named g c = c.requires.named
+
+pub entry_of_module-requires-in-Proc-clause-suits : goal.entry_of_module-requires-in-Proc-clause-suits
+entry_of_module-requires-in-Proc-clause-suits g c = c.requires.suits
+
+pub entry_of_module-requires-in-Proc-clause-complete : goal.entry_of_module-requires-in-Proc-clause-complete
+entry_of_module-requires-in-Proc-clause-complete g c = c.requires.complete
+
+pub entry_of_module-requires-in-Proc-clause-named : goal.entry_of_module-requires-in-Proc-clause-named
+entry_of_module-requires-in-Proc-clause-named g c = c.requires.named
+
+pub returns-in-DontKnowYet : goal.returns-in-DontKnowYet
+returns-in-DontKnowYet g c = record { reads = c.in-DontKnowYet.ensures.reads; waits = c.in-DontKnowYet.ensures.waits; told = λ _ _ _. tt }
+
+pub returns-in-DontKnowYet-entry_of_module-clause-told : goal.returns-in-DontKnowYet-entry_of_module-clause-told
+returns-in-DontKnowYet-entry_of_module-clause-told g c made in_hand told = tt
+
+pub returns-in-DontKnowYet-entry_of_module-2 : goal.returns-in-DontKnowYet-entry_of_module-2
+returns-in-DontKnowYet-entry_of_module-2 g c = record { reads = c.in-DontKnowYet-entry_of_module-2.ensures.reads; waits = c.in-DontKnowYet-entry_of_module-2.ensures.waits; told = λ _ _ _. tt }
+
+pub returns-then-not-value : goal.returns-then-not-value
+returns-then-not-value g c =
+    record {
+      reads = c.in-Known.ensures.reads;
+      waits = tt;
+      told = λ made in_hand told.
+          let scene = scene_of (g.S.Scopes.state c.args.scopes.now).frame made c.args.around.now in
+          let name = c.args.row.now.name in
+          sym (ap (λ (b : Bool). if b then type_implemented scene (entry_in scene.tables scene.block.home name) else is_implemented) (sym (c.in-Known.ensures.told made in_hand told) ∙ c.if-not-value.true))
+          ∙ ap (implemented scene c.args.place.scope c.args.place.ordinal name) c.in-TypeName.ensures;
+    }

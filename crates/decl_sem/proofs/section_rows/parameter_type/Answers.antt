@@ -22,3 +22,14 @@ pub returns-in-Err-put_open : goal.returns-in-Err-put_open
 returns-in-Err-put_open g c =
     parameter_piece c.args.is_open c.args.qual c.small_place.result (Err c.in-Err-put_open.memory) c.small_place.ensures.same c.requires.making
     (type_piece c.args.qual c.requires.making refl refl (rw c.in-Ok-Known.field-0-is at c.in-Ok-Known.ensures)) c.in-Err-put_open.ensures
+
+pub type_of_qual-requires-clause-suits : goal.type_of_qual-requires-clause-suits
+type_of_qual-requires-clause-suits g c = c.requires.making.suits
+
+pub type_of_qual-requires-clause-read : goal.type_of_qual-requires-clause-read
+type_of_qual-requires-clause-read g c = c.requires.read
+
+pub returns-in-Ok-DontKnowYet : goal.returns-in-Ok-DontKnowYet
+returns-in-Ok-DontKnowYet g c =
+    let p = rw c.in-Ok-DontKnowYet.field-0-is at c.in-Ok-DontKnowYet.ensures in
+    record { works = p.works; waits = p.waits; first = refl; grown = tt; told = λ hand in_hand told same. tt; there = tt }
