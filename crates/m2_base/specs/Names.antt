@@ -1,5 +1,6 @@
 -- The numbers of names: each text has the number of its place in the list, and a new one comes last.
-use Rattle.std.specs.Prelude.{◌≡◌, ◌<◌, ◌^◌, ℕ, List, [], ◌∷◌, ◌++◌, if◌then◌else◌, Option, position, codes, fold, length}
+use Rattle.std.specs.Prelude.{◌≡◌, ◌<◌, ◌^◌, ℕ, List, [], ◌∷◌, ◌++◌, if◌then◌else◌}
+use Rattle.std.specs.Prelude.{Option, position, codes, fold, length}
 use Rattle.std.specs.HashMap.{HashMap, get_by}
 use Rattle.std.specs.List.{list_any, IsDistinct}
 use Rattle.std.specs.Str.{bytes_eq}
@@ -32,10 +33,11 @@ standard_names =
 
 -- each text has the number in the index that it has in the list
 abbrev pub AreNumbersOf : {V S : Type 0} → (V → List ℕ) → HashMap V ℕ S → List (List ℕ) → Type 0
-AreNumbersOf items numbers texts = (text : List ℕ) → get_by (λ key. bytes_eq text (items key)) numbers ≡ number_in texts text
+AreNumbersOf items numbers texts =
+    (text : List ℕ) → get_by (λ key. bytes_eq text (items key)) numbers ≡ number_in texts text
 
 -- texts that differ, and not too many, with an index of their numbers
-pub record AreIndexed {V S : Type 0} (items : V → List ℕ) (numbers : HashMap V ℕ S) (texts : List (List ℕ)) : Type 0 where
-  pub found : AreNumbersOf items numbers texts
+pub record AreIndexed {V S : Type 0} (items : V → List ℕ) (index : HashMap V ℕ S) (texts : List (List ℕ)) : Type 0 where
+  pub found : AreNumbersOf items index texts
   pub differ : IsDistinct bytes_eq texts
   pub few : length texts < 2 ^ 32
