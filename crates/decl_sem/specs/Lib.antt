@@ -3,7 +3,6 @@ pub mod Bounds
 pub mod Brought
 pub mod Closing
 pub mod DeclaredItems
-pub mod Effects
 pub mod FieldNotes
 pub mod FoundConstants
 pub mod Hands

@@ -2,18 +2,9 @@
 ghost use Rattle.std.specs.Prelude.{◌≡◌, [], None};
 ghost use Rattle.m2_base.specs.Statics.Effects.{bringing as spec_bringing, only_cell as spec_only};
 
-use m2_base::{HeadingNote, Named, Place};
+use m2_base::{HeadingNote, Named, ParamCopy, Place};
 use std::alloc::Global;
 use std::marker::Model;
-
-/// What a procedure's body copies first.
-#[derive(Clone, Copy)]
-pub enum ParamCopy {
-    /// A structured value parameter, whose address is in a cell, into cells of its own.
-    Own(u32, u32, u32),
-    /// An open array by value, whose address is in a cell, and the size of its elements.
-    Open(u32, u32),
-}
 
 /// The next free cell, what the procedure's body copies first, the type of the result that the block's own heading
 /// binds, a note of the heading of a procedure that the block declares, and the names that an import brings.
@@ -29,7 +20,7 @@ pub struct Effect {
 impl Model for Effect {
     ghost use Rattle.std.specs.Prelude.{map};
     ghost use Rattle.m2_base.specs.Statics.Effects.{Effect as PlainEffect};
-    ghost use Rattle.decl_sem.specs.Effects.{copy_view};
+    ghost use Rattle.m2_base.specs.Copies.{copy_view};
 
     ghost Value = { PlainEffect };
 

@@ -94,7 +94,7 @@ mod variables;
 
 pub use closing::close_check;
 pub use declaring::{Declared, declare};
-pub use effects::{Effect, ParamCopy};
+pub use effects::Effect;
 pub use first_cells::first_cell;
 pub use items::{Before, Item};
 pub use laws::laid_rows_differ;

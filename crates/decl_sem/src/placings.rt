@@ -5,8 +5,8 @@ ghost use Rattle.decl_sem.specs.OwnParameters.{after_cells as spec_cells, after_
 ghost use Rattle.decl_sem.specs.OwnParameters.{after_own as spec_own};
 
 use crate::cells::capped;
-use crate::effects::{Effect, ParamCopy};
-use m2_base::{Memory, Place};
+use crate::effects::Effect;
+use m2_base::{Memory, ParamCopy, Place};
 use std::alloc::Global;
 use std::marker::Model;
 
@@ -22,7 +22,7 @@ pub(crate) struct Placing {
 impl Model for Placing {
     ghost use Rattle.std.specs.Prelude.{map};
     ghost use Rattle.m2_base.specs.Statics.HeadingRows.{Placing as PlainPlacing, placing as spec_placing};
-    ghost use Rattle.decl_sem.specs.Effects.{copy_view};
+    ghost use Rattle.m2_base.specs.Copies.{copy_view};
 
     ghost Value = { PlainPlacing };
 

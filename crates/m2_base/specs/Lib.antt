@@ -1,5 +1,6 @@
 pub mod Asks
 pub mod Comments
+pub mod Copies
 pub mod Diagnostics
 pub mod ExpressionsOf
 pub mod FaultsOf

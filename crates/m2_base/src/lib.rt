@@ -10,6 +10,7 @@
 
 mod brought;
 mod builtins;
+mod copies;
 mod diagnostic;
 mod kind;
 mod laws;
@@ -30,38 +31,104 @@ mod texts;
 mod token;
 mod trees;
 
-pub use builtins::{Builtin, standard_procedure};
+pub use builtins::Builtin;
+pub use builtins::standard_procedure;
+pub use copies::ParamCopy;
 pub use diagnostic::Diagnostic;
-pub use kind::{TokenKind, reserved_kind, symbol_kind};
+pub use kind::TokenKind;
+pub use kind::reserved_kind;
+pub use kind::symbol_kind;
 pub use laws::one_list_of_tokens;
-pub use letters::{
-    goes_on, is_blank, is_digit, is_hexadecimal_digit, is_letter, is_octal_digit, is_quote,
-    stays_in,
-};
-pub use limits::{
-    DEEPEST_LEVEL, GREATEST_CARDINAL, GREATEST_CHARACTER, GREATEST_ELEMENT, GREATEST_INTEGER,
-    LEAST_INTEGER, LONGEST_CHAIN, MOST_BROUGHT, MOST_CELLS, MOST_NESTED, MOST_PROCEDURES,
-    MOST_ROWS, MOST_TEXT_BYTES, MOST_TEXTS, MOST_TOKENS, MOST_UNIT_TOKENS, STANDARD_ROWS,
-    TOO_MANY_CELLS,
-};
+pub use letters::goes_on;
+pub use letters::is_blank;
+pub use letters::is_digit;
+pub use letters::is_hexadecimal_digit;
+pub use letters::is_letter;
+pub use letters::is_octal_digit;
+pub use letters::is_quote;
+pub use letters::stays_in;
+pub use limits::DEEPEST_LEVEL;
+pub use limits::GREATEST_CARDINAL;
+pub use limits::GREATEST_CHARACTER;
+pub use limits::GREATEST_ELEMENT;
+pub use limits::GREATEST_INTEGER;
+pub use limits::LEAST_INTEGER;
+pub use limits::LONGEST_CHAIN;
+pub use limits::MOST_BROUGHT;
+pub use limits::MOST_CELLS;
+pub use limits::MOST_NESTED;
+pub use limits::MOST_PROCEDURES;
+pub use limits::MOST_ROWS;
+pub use limits::MOST_TEXT_BYTES;
+pub use limits::MOST_TEXTS;
+pub use limits::MOST_TOKENS;
+pub use limits::MOST_UNIT_TOKENS;
+pub use limits::STANDARD_ROWS;
+pub use limits::TOO_MANY_CELLS;
 pub use memory::Memory;
 pub use names::Names;
-pub use notes::{Answer, Diag, Notes};
-pub use operands::{FoldKind, Operand};
-pub use outputs::{HeadingNote, Output, ProcCode, StreamFault};
-pub use replies::{Ask, Chain, Head, Reply};
-pub use rows::{Mode, Place, Row, RowKey, RowMeaning, has_key, read_row, row_key, write_row};
+pub use notes::Answer;
+pub use notes::Diag;
+pub use notes::Notes;
+pub use operands::FoldKind;
+pub use operands::Operand;
+pub use outputs::HeadingNote;
+pub use outputs::Output;
+pub use outputs::ProcCode;
+pub use outputs::StreamFault;
+pub use replies::Ask;
+pub use replies::Chain;
+pub use replies::Head;
+pub use replies::Reply;
+pub use rows::Mode;
+pub use rows::Place;
+pub use rows::Row;
+pub use rows::RowKey;
+pub use rows::RowMeaning;
+pub use rows::has_key;
+pub use rows::read_row;
+pub use rows::row_key;
+pub use rows::write_row;
 pub use scopes::Scopes;
-pub use sites::{Around, Layout, Named, Site};
-pub use standard::{standard_row, standard_rows};
-pub use static_laws::{
-    chains_go_down, items_are_read, lone_modules_are_read, one_table, ranges_are_whole,
-    rows_are_right, rows_have_their_shapes, same_is_an_equivalence, second_rows_are_nameless,
-};
-pub use texts::{Text, Texts};
+pub use sites::Around;
+pub use sites::Layout;
+pub use sites::Named;
+pub use sites::Site;
+pub use standard::standard_row;
+pub use standard::standard_rows;
+pub use static_laws::chains_go_down;
+pub use static_laws::items_are_read;
+pub use static_laws::lone_modules_are_read;
+pub use static_laws::one_table;
+pub use static_laws::ranges_are_whole;
+pub use static_laws::rows_are_right;
+pub use static_laws::rows_have_their_shapes;
+pub use static_laws::same_is_an_equivalence;
+pub use static_laws::second_rows_are_nameless;
+pub use texts::Text;
+pub use texts::Texts;
 pub use token::Token;
-pub use trees::{
-    CaseArm, Decl, Designator, Expr, ExprForm, FieldList, Formal, Heading, Ident, IfArm, Import,
-    Label, Next, Operator, Qual, Section, Selector, Statement, StmtForm, Stream, StreamKind,
-    TypeExpr, TypeForm, VariantArm,
-};
+pub use trees::CaseArm;
+pub use trees::Decl;
+pub use trees::Designator;
+pub use trees::Expr;
+pub use trees::ExprForm;
+pub use trees::FieldList;
+pub use trees::Formal;
+pub use trees::Heading;
+pub use trees::Ident;
+pub use trees::IfArm;
+pub use trees::Import;
+pub use trees::Label;
+pub use trees::Next;
+pub use trees::Operator;
+pub use trees::Qual;
+pub use trees::Section;
+pub use trees::Selector;
+pub use trees::Statement;
+pub use trees::StmtForm;
+pub use trees::Stream;
+pub use trees::StreamKind;
+pub use trees::TypeExpr;
+pub use trees::TypeForm;
+pub use trees::VariantArm;

@@ -19,8 +19,8 @@ use Rattle.m2_base.specs.declared.replies.Head.{Head}
 use Rattle.m2_base.specs.declared.rows.Place.{Place}
 use Rattle.m2_base.specs.declared.sites.Site.{Site}
 use Rattle.m2_base.specs.declared.trees.statements.Statement.{Statement as StatementOf}
-use Rattle.decl_sem.specs.Effects.{copy_view}
-use Rattle.decl_sem.specs.declared.effects.ParamCopy.{ParamCopy}
+use Rattle.m2_base.specs.Copies.{copy_view}
+use Rattle.m2_base.specs.declared.copies.ParamCopy.{ParamCopy}
 use Rattle.type_rules.specs.Scenes.{AreInHand, Hand}
 use Rattle.type_rules.specs.Sites.{context_of}
 use Rattle.code_form.specs.Heights.{Step}

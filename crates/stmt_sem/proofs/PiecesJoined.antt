@@ -2,8 +2,8 @@
 use Rattle.std.proofs.Common.{◌+◌, ◌≡◌, ◌∙◌, ◌++◌, [], ℕ, List, map, drop, get_or, ◌<◌, length, ap, sym}
 use Rattle.std.proofs.lemmas.List.{append-nil, drop_more}
 use Rattle.code_form.specs.Heights.{Step}
-use Rattle.decl_sem.specs.Effects.{copy_view}
-use Rattle.decl_sem.specs.declared.effects.ParamCopy.{ParamCopy}
+use Rattle.m2_base.specs.Copies.{copy_view}
+use Rattle.m2_base.specs.declared.copies.ParamCopy.{ParamCopy}
 use Rattle.expr_sem.specs.Fragments.{step_view}
 use Rattle.expr_sem.specs.Parts.{Made, Part, Spot, none}
 use Rattle.expr_sem.specs.Pieces.{Appended, IsAsBefore, extend, spot_of}

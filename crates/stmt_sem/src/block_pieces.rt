@@ -1,7 +1,7 @@
 //! Pieces of a block's code: what a body copies first, and how it ends.
 ghost use Rattle.std.specs.Prelude.{◌≡◌, [], IfOk, OnOk, map, option_map};
 ghost use Rattle.m2_base.specs.Views.{heading_view};
-ghost use Rattle.decl_sem.specs.Effects.{copy_view};
+ghost use Rattle.m2_base.specs.Copies.{copy_view};
 ghost use Rattle.expr_sem.specs.Parts.{none};
 ghost use Rattle.expr_sem.specs.Pieces.{Appended};
 ghost use Rattle.stmt_sem.specs.BlockCode.{copy_code, ending as spec_ending, first_cell as spec_cell};
@@ -10,9 +10,8 @@ ghost use Rattle.stmt_sem.specs.Stating.{made_in, spot_at};
 
 use crate::procedure_codes::results_of;
 use code_form::Instr;
-use decl_sem::ParamCopy;
 use expr_sem::{Piece, Step, push_instr};
-use m2_base::{Heading, Memory, StreamKind};
+use m2_base::{Heading, Memory, ParamCopy, StreamKind};
 use std::alloc::Global;
 
 /// The trap at the end of a function.

@@ -9,7 +9,7 @@ ghost use Rattle.m2_base.specs.Statics.Contexts.{Context};
 ghost use Rattle.m2_base.specs.Statics.Effects.{BlockEffects};
 ghost use Rattle.m2_base.specs.Statics.ReadStatements.{AreReadStatements};
 ghost use Rattle.m2_base.specs.Views.{stream_view};
-ghost use Rattle.decl_sem.specs.Effects.{copy_view};
+ghost use Rattle.m2_base.specs.Copies.{copy_view};
 ghost use Rattle.type_rules.specs.Scenes.{IsThere};
 ghost use Rattle.type_rules.specs.Sites.{SuitsSite};
 ghost use Rattle.expr_sem.specs.Fragments.{AreSound};
@@ -24,11 +24,10 @@ use crate::block_pieces::{append_ending, begun};
 use crate::flow_appending::append_flow;
 use crate::flows::Flow;
 use crate::top_statements::{Stated, TopStatement, top_statement};
-use decl_sem::ParamCopy;
 use expr_sem::{Fragments, Piece, capped_sum};
 use m2_base::{
-    Around, Ask, Diagnostic, Ident, MOST_CELLS, Memory, Notes, Place, Scopes, Site, Stream,
-    StreamKind,
+    Around, Ask, Diagnostic, Ident, MOST_CELLS, Memory, Notes, ParamCopy, Place, Scopes, Site,
+    Stream, StreamKind,
 };
 use std::alloc::Global;
 use std::marker::Model;

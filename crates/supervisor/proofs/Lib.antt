@@ -1,4 +1,2 @@
-pub mod UnitOutputs
-pub mod Frames
-pub mod Standing
-pub mod Starting
+mod Standing
+mod Starting

@@ -20,8 +20,8 @@ use Rattle.task_state.specs.declared.task.Task.{Task}
 use Rattle.task_state.specs.declared.task.Turn.{Turn}
 use Rattle.task_state.specs.declared.task.Turn.TheVariants.{Done, Parked}
 use Rattle.task_state.proofs.Finished.{over_closed}
+use Rattle.unit_tasks.proofs.Frames.{far_beside, state_beside}
 use Rattle.supervisor.specs.Stands.{AreFull, AreOver, AreOverBefore, HasGrown, IsStand, IsTurned, state_at}
-use Rattle.supervisor.proofs.Frames.{far_beside, state_beside}
 
 -- ** Scopes that fill one
 

@@ -1,4 +1,1 @@
-pub mod Units
-pub mod Outputs
-pub mod Starts
 pub mod Stands

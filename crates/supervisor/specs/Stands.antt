@@ -4,13 +4,18 @@ use Rattle.m2_base.specs.Finished.{WhereFinished}
 use Rattle.m2_base.specs.States.{IsLater, State, mark_of}
 use Rattle.m2_base.specs.Tables.{head_of, rows_at, table_at}
 use Rattle.m2_base.specs.Units.{UnitTexts}
+use Rattle.m2_base.specs.declared.outputs.Output.{Output}
 use Rattle.scope_core.specs.Fronts.{ShowsFront}
-use Rattle.scope_core.specs.PlainScopes.{Plain, moved, standard_table, state_of}
+use Rattle.scope_core.specs.PlainScopes.{Plain, moved, standard_table, started, state_of}
 use Rattle.stream_split.specs.Sizes.{sizes_of}
 use Rattle.stream_split.specs.Streams.{streams_of}
-use Rattle.task_state.specs.Progress.{Ends, IsAsFar, is_over}
+use Rattle.task_state.specs.Progress.{Ends, IsAsFar, IsLeft, is_over}
 use Rattle.task_state.specs.declared.task.Task.{Task}
 use Rattle.task_state.specs.declared.task.Turn.{Turn}
+
+-- the scopes of one thread for a unit, in which nothing is entered yet
+abbrev pub first_scopes : UnitTexts → Plain
+first_scopes u = started u (sizes_of (streams_of u))
 
 -- the scopes, as the task at this place fills them
 abbrev pub state_at : Plain → ℕ → State
@@ -35,6 +40,10 @@ AreOverBefore n tasks = (k : ℕ) (t : Task) → k < n → slice_get tasks k ≡
 -- all of them are
 abbrev pub AreOver : List Task → Type 0
 AreOver tasks = AreOverBefore (length tasks) tasks
+
+-- a task leaves this output, wherever its scopes are
+abbrev pub Leaves : Task → Output → Type 0
+Leaves t o = (st : State) → IsAsFar st t → IsLeft st t o
 
 -- nothing is taken back of what is entered, and no other texts or rooms come
 pub record HasGrown (p q : Plain) : Type 0 where

@@ -1,35 +1,17 @@
 //! The tasks of a unit, before their first turns and after their last.
 ghost use Rattle.std.specs.Prelude.{◌≡◌, IfOk, map};
 ghost use Rattle.std.specs.List.{AllZip};
-ghost use Rattle.stream_split.specs.Chains.{around_view};
 ghost use Rattle.stream_split.specs.Streams.{streams_of};
-ghost use Rattle.stream_split.specs.Surroundings.{surroundings_of};
 ghost use Rattle.stream_split.specs.Views.{stream_view};
-ghost use Rattle.supervisor.specs.Outputs.{Leaves};
-ghost use Rattle.supervisor.specs.Stands.{AreOver, IsStand};
-ghost use Rattle.supervisor.specs.Starts.{AreNew, StartsIn, first_scopes};
-ghost use Rattle.supervisor.specs.Units.{CanBeRun};
+ghost use Rattle.unit_tasks.specs.Starts.{AreNew, StartsIn};
+ghost use Rattle.unit_tasks.specs.Units.{CanBeRun};
+ghost use Rattle.supervisor.specs.Stands.{AreOver, IsStand, Leaves, first_scopes};
 
 use m2_base::{Around, Memory, Output, Texts};
 use std::alloc::Global;
-use stream_split::{StreamTokens, around};
+use stream_split::StreamTokens;
 use task_state::Task;
-
-/// What surrounds the block of each stream.
-pub fn surroundings(
-    alloc: Global,
-    texts: &Texts,
-    streams: &[StreamTokens],
-) -> Result<Vec<Around>, Memory>
-    requires { map stream_view streams.now ≡ streams_of texts.now }
-    ensures { IfOk result (λ arounds. map around_view arounds.items ≡ surroundings_of texts.now) }
-{
-    let mut arounds = Vec::with_capacity(alloc, streams.len())?;
-    for stream in streams {
-        arounds.push(around(alloc, texts, streams, stream.stream)?)?;
-    }
-    Ok(arounds)
-}
+use unit_tasks::surroundings;
 
 /// The tasks of these streams, whose blocks are surrounded so.
 fn new_tasks(

@@ -3,12 +3,12 @@ ghost use Rattle.std.specs.Prelude.{◌≡◌, ◌+◌, ◌<◌, ◌^◌, IfOk, 
 ghost use Rattle.scope_core.specs.Fronts.{ShowsFront};
 ghost use Rattle.stream_split.specs.Streams.{streams_of};
 ghost use Rattle.stream_split.specs.Views.{stream_view};
-ghost use Rattle.supervisor.specs.Outputs.{AreOfStreams, AreOutputs};
-ghost use Rattle.supervisor.specs.Stands.{AreFull, AreOver, AreOverBefore, HasGrown, IsStand, IsTurned, state_at};
-ghost use Rattle.supervisor.specs.Starts.{first_scopes};
-ghost use Rattle.supervisor.specs.Units.{CanBeRun};
 ghost use Rattle.m2_base.specs.States.{Turns};
 ghost use Rattle.task_state.specs.Progress.{Ends, IsAsFar};
+ghost use Rattle.unit_tasks.specs.Outputs.{AreOfStreams, AreOutputs};
+ghost use Rattle.unit_tasks.specs.Units.{CanBeRun};
+ghost use Rattle.supervisor.specs.Stands.{AreFull, AreOver, AreOverBefore, HasGrown, IsStand, IsTurned};
+ghost use Rattle.supervisor.specs.Stands.{first_scopes, state_at};
 
 use crate::tasks::{outputs_of, tasks_of};
 use m2_base::{Memory, Output, Texts};

@@ -7,8 +7,8 @@ ghost use Rattle.m2_base.specs.Statics.ProcedureRows.{is_proc};
 ghost use Rattle.m2_base.specs.declared.limits.TheConstants.{MOST_BROUGHT};
 ghost use Rattle.task_state.specs.Collecting.{CanAdd, none_from, placed_from, with_item};
 
-use decl_sem::{Before, Declared, ParamCopy};
-use m2_base::{HeadingNote, Layout, Memory, Named, Notes, Place, Row};
+use decl_sem::{Before, Declared};
+use m2_base::{HeadingNote, Layout, Memory, Named, Notes, ParamCopy, Place, Row};
 use std::alloc::Global;
 use std::marker::Model;
 
@@ -85,7 +85,7 @@ pub(crate) struct Collected {
 
 impl Model for Collected {
     ghost use Rattle.std.specs.Prelude.{map};
-    ghost use Rattle.decl_sem.specs.Effects.{copy_view};
+    ghost use Rattle.m2_base.specs.Copies.{copy_view};
     ghost use Rattle.task_state.specs.Collecting.{Collected as PlainCollected};
 
     ghost Value = { PlainCollected };

@@ -1,8 +1,7 @@
 //! Units over the scopes of one thread.
 ghost use Rattle.std.specs.Prelude.{◌≡◌, IfSome};
 ghost use Rattle.def_import.specs.Answers.{IsWhole};
-ghost use Rattle.supervisor.specs.Stands.{IsStand};
-ghost use Rattle.supervisor.specs.Starts.{first_scopes};
+ghost use Rattle.supervisor.specs.Stands.{IsStand, first_scopes};
 
 use def_import::{Gathered, gather};
 use m2_base::{Output, Texts};

@@ -10,7 +10,7 @@ use Rattle.m2_base.specs.Statics.Contexts.{Block}
 use Rattle.m2_base.specs.Tables.{rows_at}
 use Rattle.m2_base.specs.Units.{UnitTexts}
 use Rattle.m2_base.specs.declared.rows.Row.{Row}
-use Rattle.supervisor.specs.Outputs.{AreOutputs}
+use Rattle.unit_tasks.specs.Outputs.{AreOutputs}
 use Rattle.relay.specs.Hands.{AreLater}
 use Rattle.scope_table.specs.declared.table.ScopeTable.{ScopeTable}
 use Rattle.dky_search.specs.SeatScopes.{state_of, table_in}
@@ -20,9 +20,9 @@ use Rattle.stream_split.proofs.StreamCounts.{number_is}
 use Rattle.task_state.specs.Outputs.{IsOutput}
 use Rattle.task_state.specs.Progress.{IsLeft}
 use Rattle.task_state.specs.declared.task.Task.{Task}
-use Rattle.supervisor.specs.Outputs.{IsOutputIn}
-use Rattle.supervisor.proofs.Starting.{zip_from, zip_long, zipped_at}
-use Rattle.supervisor.proofs.UnitOutputs.{outputs_are}
+use Rattle.unit_tasks.specs.Outputs.{IsOutputIn}
+use Rattle.unit_tasks.proofs.Starting.{zip_from, zip_long, zipped_at}
+use Rattle.unit_tasks.proofs.UnitOutputs.{outputs_are}
 use Rattle.unit_workers.specs.Ends.{IsEnd, IsFinished, outputs_in}
 use Rattle.unit_workers.specs.Jobs.{Fits, Stays, fills_stays, fits_on}
 use Rattle.unit_workers.specs.Starts.{IsBegun}

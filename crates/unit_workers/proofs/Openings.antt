@@ -25,9 +25,9 @@ use Rattle.stream_split.proofs.StreamCounts.{number_is, streams_counted}
 use Rattle.task_state.specs.Progress.{IsAsFar, is_over}
 use Rattle.task_state.specs.declared.task.Task.{Task}
 use Rattle.task_state.proofs.Finished.{over_closed}
-use Rattle.supervisor.specs.Starts.{IsEmptyFor, IsNew, StartsIn}
-use Rattle.supervisor.specs.Units.{CanBeRun, block_in}
-use Rattle.supervisor.proofs.Starting.{starts, zip_count, zip_from, zip_long, zipped_at}
+use Rattle.unit_tasks.specs.Starts.{IsEmptyFor, IsNew, StartsIn}
+use Rattle.unit_tasks.specs.Units.{CanBeRun, block_in}
+use Rattle.unit_tasks.proofs.Starting.{starts, zip_count, zip_from, zip_long, zipped_at}
 use Rattle.unit_workers.specs.Jobs.{Fits, SeesAll}
 use Rattle.unit_workers.specs.Starts.{AreOthers, IsBegun, IsUnused, first_state}
 use Rattle.unit_workers.proofs.Places.{all_from, at_or, firsts_zip, low_of, map_zip, seconds_zip, unmap_zip, weaker}

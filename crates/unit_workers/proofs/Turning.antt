@@ -11,7 +11,7 @@ use Rattle.task_state.specs.declared.task.Task.{Task}
 use Rattle.task_state.specs.declared.task.Turn.{Turn}
 use Rattle.task_state.specs.declared.task.Turn.TheVariants.{Done, Memory, Parked}
 use Rattle.task_state.proofs.Finished.{over_closed}
-use Rattle.supervisor.proofs.Frames.{far_beside, state_beside}
+use Rattle.unit_tasks.proofs.Frames.{far_beside, state_beside}
 use Rattle.unit_workers.specs.Jobs.{SeesAll, Stays, becomes}
 
 later_complete : (m n : Mark) → IsLater m n → m.complete ≡ true → n.complete ≡ true

@@ -14,7 +14,7 @@ use Rattle.dky_search.specs.declared.seat_scopes.SeatScopes.{SeatScopes}
 use Rattle.stream_split.specs.Streams.{StreamOf}
 use Rattle.task_state.specs.Progress.{IsAsFar, IsLeft}
 use Rattle.task_state.specs.declared.task.Task.{Task}
-use Rattle.supervisor.specs.Outputs.{IsOutputIn}
+use Rattle.unit_tasks.specs.Outputs.{IsOutputIn}
 use Rattle.unit_workers.specs.declared.finishing.Finished.{Finished}
 
 -- what a task leaves that is done, and the handle that it had, on this table

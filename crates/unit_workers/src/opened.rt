@@ -1,11 +1,11 @@
 //! A unit, over a table that is opened for it.
 ghost use Rattle.std.specs.Prelude.{◌≡◌, ◌<◌, ◌≤◌, ◌^◌, All, IfOk, length, map};
-ghost use Rattle.supervisor.specs.Outputs.{AreOutputs};
+ghost use Rattle.unit_tasks.specs.Outputs.{AreOutputs};
 ghost use Rattle.scope_table.specs.Seats.{IsOpened};
 ghost use Rattle.stream_split.specs.Sizes.{sizes_of};
 ghost use Rattle.stream_split.specs.Streams.{streams_of};
 ghost use Rattle.stream_split.specs.Views.{stream_view};
-ghost use Rattle.supervisor.specs.Units.{CanBeRun};
+ghost use Rattle.unit_tasks.specs.Units.{CanBeRun};
 ghost use Rattle.unit_workers.specs.Ends.{outputs_in};
 ghost use Rattle.unit_workers.specs.Starts.{AreOthers};
 

@@ -4,7 +4,7 @@ ghost use Rattle.std.specs.List.{AllZip};
 ghost use Rattle.dky_search.specs.SeatScopes.{state_of};
 ghost use Rattle.stream_split.specs.Streams.{streams_of};
 ghost use Rattle.stream_split.specs.Views.{stream_view};
-ghost use Rattle.supervisor.specs.Units.{CanBeRun};
+ghost use Rattle.unit_tasks.specs.Units.{CanBeRun};
 ghost use Rattle.unit_workers.specs.Starts.{AreOthers, IsBegun};
 
 use crate::handles::{OfTable, TableScopes};
@@ -13,8 +13,8 @@ use m2_base::{Memory, Texts};
 use scope_table::{ScopeTable, TableSeat};
 use std::alloc::Global;
 use stream_split::StreamTokens;
-use supervisor::surroundings;
 use task_state::Task;
+use unit_tasks::surroundings;
 
 /// The jobs of a unit's streams, over the table that was opened for it. Nothing is done yet.
 pub(crate) fn jobs_of<'t, J: OfTable>(

@@ -1,10 +1,10 @@
 //! A unit, worked through by workers at once.
 ghost use Rattle.std.specs.Prelude.{◌≡◌, ◌<◌, ◌≤◌, IfOk, Some, map};
 ghost use Rattle.std.specs.List.{AllZip};
-ghost use Rattle.supervisor.specs.Outputs.{AreOutputs};
+ghost use Rattle.unit_tasks.specs.Outputs.{AreOutputs};
 ghost use Rattle.stream_split.specs.Streams.{streams_of};
 ghost use Rattle.stream_split.specs.Views.{stream_view};
-ghost use Rattle.supervisor.specs.Units.{CanBeRun};
+ghost use Rattle.unit_tasks.specs.Units.{CanBeRun};
 ghost use Rattle.unit_workers.specs.Ends.{IsFinished, outputs_in};
 ghost use Rattle.unit_workers.specs.Starts.{AreOthers};
 

@@ -1,8 +1,8 @@
 use Rattle.std.proofs.Common.{◌∷◌, [], refl, subst, sym}
 use Rattle.std.specs.Prelude.{OnOk}
 use Rattle.code_form.specs.declared.instr.Instr.TheVariants.{Load, Local, Move}
-use Rattle.decl_sem.specs.Effects.{copy_view}
-use Rattle.decl_sem.specs.declared.effects.ParamCopy.{ParamCopy}
+use Rattle.m2_base.specs.Copies.{copy_view}
+use Rattle.m2_base.specs.declared.copies.ParamCopy.{ParamCopy}
 use Rattle.expr_sem.specs.Parts.{plain}
 use Rattle.expr_sem.specs.Pieces.{Appended}
 use Rattle.expr_sem.proofs.PieceParts.{then_on}

@@ -1,8 +1,8 @@
 use Rattle.std.proofs.Common.{◌∙◌, ◌≤◌, [], ℕ, List, ap, length, map, sym}
 use Rattle.std.proofs.lemmas.List.{drop_all}
-use Rattle.decl_sem.specs.Effects.{copy_view}
-use Rattle.decl_sem.specs.declared.effects.ParamCopy.{ParamCopy}
-use Rattle.decl_sem.specs.declared.effects.ParamCopy.TheVariants.{Own}
+use Rattle.m2_base.specs.Copies.{copy_view}
+use Rattle.m2_base.specs.declared.copies.ParamCopy.{ParamCopy}
+use Rattle.m2_base.specs.declared.copies.ParamCopy.TheVariants.{Own}
 use Rattle.expr_sem.specs.Parts.{none}
 use Rattle.expr_sem.specs.Stacks.{ends_as}
 use Rattle.stmt_sem.specs.BlockCode.{first_cell, prologue}

@@ -1,5 +1,5 @@
 use Rattle.std.proofs.Common.{◌≡◌, [], drop, map}
-use Rattle.decl_sem.specs.Effects.{copy_view}
+use Rattle.m2_base.specs.Copies.{copy_view}
 use Rattle.expr_sem.specs.Stacks.{ends_as}
 use Rattle.stmt_sem.specs.BlockCode.{prologue}
 use Rattle.stmt_sem.proofs.block_pieces.begun.Given as goal

@@ -8,7 +8,7 @@ use Rattle.m2_base.specs.declared.sites.Around.{Around}
 use Rattle.stream_split.specs.Views.{stream_view}
 use Rattle.stream_split.specs.declared.streams.StreamTokens.{StreamTokens}
 use Rattle.task_state.specs.declared.task.Task.{Task}
-use Rattle.supervisor.specs.Starts.{IsNew}
+use Rattle.unit_tasks.specs.Starts.{IsNew}
 use Rattle.supervisor.proofs.Starting.{pairs_same}
 use Rattle.supervisor.proofs.tasks.new_tasks.Goals as goal
 

@@ -1,6 +1,6 @@
 use Rattle.std.specs.List.{AllZip}
 use Rattle.stream_split.specs.Views.{stream_view}
-use Rattle.supervisor.specs.Starts.{IsNew}
+use Rattle.unit_tasks.specs.Starts.{IsNew}
 use Rattle.supervisor.proofs.tasks.new_tasks.Given as goal
 
 -- the tasks so far

@@ -2,7 +2,7 @@ use Rattle.std.proofs.Common.{subst, sym, List, ◌++◌, ◌∷◌, []}
 use Rattle.std.specs.List.{AllZip}
 use Rattle.std.proofs.lemmas.Slice.Zip.{all_zipped_more}
 use Rattle.m2_base.specs.declared.outputs.Output.{Output}
-use Rattle.supervisor.specs.Outputs.{Leaves}
+use Rattle.supervisor.specs.Stands.{Leaves}
 use Rattle.supervisor.proofs.tasks.outputs_of.Goals as goal
 
 pub loop-task-preserved : goal.loop-task-preserved

@@ -1,5 +1,5 @@
 use Rattle.std.specs.List.{AllZip}
-use Rattle.supervisor.specs.Outputs.{Leaves}
+use Rattle.supervisor.specs.Stands.{Leaves}
 use Rattle.supervisor.proofs.tasks.outputs_of.Given as goal
 
 -- what the tasks so far leave

@@ -2,9 +2,10 @@ use Rattle.std.specs.List.{AllZip}
 use Rattle.std.proofs.Common.{Global, Vec}
 use Rattle.stream_split.specs.Streams.{streams_of}
 use Rattle.task_state.specs.declared.task.Task.{Task}
-use Rattle.supervisor.specs.Stands.{IsStand}
-use Rattle.supervisor.specs.Starts.{AreNew, StartsIn, first_scopes}
-use Rattle.supervisor.proofs.Starting.{first_stand, if_ok, starts}
+use Rattle.unit_tasks.specs.Starts.{AreNew, StartsIn}
+use Rattle.unit_tasks.proofs.Starting.{if_ok, starts}
+use Rattle.supervisor.specs.Stands.{IsStand, first_scopes}
+use Rattle.supervisor.proofs.Starting.{first_stand}
 use Rattle.supervisor.proofs.tasks.tasks_of.Goals as goal
 
 pub returns-clause-stand : goal.returns-clause-stand

@@ -1,11 +1,12 @@
 use Rattle.std.proofs.Common.{Global, Vec, arith, length, ◌≡◌}
 use Rattle.m2_base.specs.declared.outputs.Output.{Output}
 use Rattle.merge_laws.specs.Outputs.{AreOutputs}
-use Rattle.supervisor.specs.Outputs.{AreOfStreams}
+use Rattle.unit_tasks.specs.Outputs.{AreOfStreams}
+use Rattle.unit_tasks.proofs.Starting.{if_ok}
+use Rattle.unit_tasks.proofs.UnitOutputs.{outputs_are}
 use Rattle.supervisor.specs.Stands.{AreFull}
-use Rattle.supervisor.proofs.Starting.{if_ok, lent_left, on_ok}
+use Rattle.supervisor.proofs.Starting.{lent_left, on_ok}
 use Rattle.supervisor.proofs.Standing.{all_full}
-use Rattle.supervisor.proofs.UnitOutputs.{outputs_are}
 use Rattle.supervisor.proofs.turns.run_turns.Goals as goal
 
 pub returns-clause-streams : goal.returns-clause-streams

@@ -1,5 +1,5 @@
 use Rattle.std.proofs.Common.{◌≡◌, None, refl, sym, ap, ◌∙◌, map}
-use Rattle.decl_sem.specs.Effects.{copy_view}
+use Rattle.m2_base.specs.Copies.{copy_view}
 use Rattle.m2_base.proofs.Kept.{Turns-keeps}
 use Rattle.task_state.specs.Collecting.{Collected}
 use Rattle.task_state.specs.declared.stages.Stating.{Stating}

@@ -6,7 +6,7 @@ use Rattle.std.proofs.lemmas.Iterator.Adapters.{YieldsList-from_vec}
 use Rattle.std.proofs.lemmas.Iterator.Consumers.{YieldsList-end, YieldsList-turn}
 use Rattle.dky_search.specs.SeatScopes.{state_of}
 use Rattle.stream_split.specs.Views.{stream_view}
-use Rattle.supervisor.specs.Starts.{IsNew}
+use Rattle.unit_tasks.specs.Starts.{IsNew}
 use Rattle.unit_workers.specs.Starts.{IsUnused, first_state}
 use Rattle.unit_workers.proofs.Openings.{all_begun, all_unused, texts_same}
 use Rattle.unit_workers.proofs.Places.{second_of, triples_same}

@@ -2,7 +2,7 @@ use Rattle.std.specs.Prelude.{◌≡◌}
 use Rattle.std.specs.List.{AllZip}
 use Rattle.dky_search.specs.SeatScopes.{state_of}
 use Rattle.stream_split.specs.Views.{stream_view}
-use Rattle.supervisor.specs.Starts.{IsNew}
+use Rattle.unit_tasks.specs.Starts.{IsNew}
 use Rattle.unit_workers.specs.Starts.{first_state}
 use Rattle.unit_workers.proofs.opening.jobs_of.Given as goal
 

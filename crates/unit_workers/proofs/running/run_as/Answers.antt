@@ -4,7 +4,7 @@ use Rattle.std.proofs.Common.{subst}
 use Rattle.std.proofs.Crossing.{crosses}
 use Rattle.dky_search.specs.SeatScopes.{state_of}
 use Rattle.stream_split.specs.Streams.{streams_of}
-use Rattle.supervisor.proofs.Starting.{if_ok}
+use Rattle.unit_tasks.proofs.Starting.{if_ok}
 use Rattle.unit_workers.specs.Ends.{IsEnd, IsFinished}
 use Rattle.unit_workers.proofs.Crossing.{job-send}
 use Rattle.unit_workers.proofs.Endings.{all_finished}

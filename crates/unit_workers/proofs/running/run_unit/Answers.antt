@@ -1,4 +1,4 @@
-use Rattle.supervisor.proofs.Starting.{if_ok}
+use Rattle.unit_tasks.proofs.Starting.{if_ok}
 use Rattle.unit_workers.proofs.Endings.{finished_outputs}
 use Rattle.unit_workers.proofs.running.run_unit.Goals as goal
 

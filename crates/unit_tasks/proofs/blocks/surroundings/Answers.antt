@@ -1,10 +1,10 @@
-use Rattle.supervisor.proofs.Starting.{number_low, one_more_around, read_at}
+use Rattle.unit_tasks.proofs.Starting.{number_low, one_more_around, read_at}
 use Rattle.std.proofs.Common.{subst, sym, ◌≡◌, List, map, take, ◌+◌}
 use Rattle.m2_base.specs.declared.sites.Around.{Around}
 use Rattle.stream_split.specs.Chains.{around_view}
 use Rattle.stream_split.specs.Streams.{streams_of}
-use Rattle.supervisor.specs.Units.{block_in}
-use Rattle.supervisor.proofs.tasks.surroundings.Goals as goal
+use Rattle.unit_tasks.specs.Units.{block_in}
+use Rattle.unit_tasks.proofs.blocks.surroundings.Goals as goal
 
 pub around-requires-clause-low : goal.around-requires-clause-low
 around-requires-clause-low c = (number_low c.args.texts.now c.args.streams.now c.requires c.loop-stream.stream-index c.stream-item.result c.loop-stream-test.true c.stream-item.is).0

@@ -36,8 +36,8 @@ use Rattle.task_state.proofs.UnitRows.{first_stay}
 use Rattle.block_laws.specs.Worlds.{of_blocks, over_blocks}
 use Rattle.unit_merge.specs.Outputs as merging
 use Rattle.merge_laws.specs.Outputs.{AreCoded, AreNoted, AreOutputs}
-use Rattle.supervisor.specs.Outputs.{AreOfStreams, IsOutputIn}
-use Rattle.supervisor.specs.Units.{block_in}
+use Rattle.unit_tasks.specs.Outputs.{AreOfStreams, IsOutputIn}
+use Rattle.unit_tasks.specs.Units.{block_in}
 
 -- ** What is made of blocks, one after another
 

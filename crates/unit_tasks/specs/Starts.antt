@@ -4,7 +4,6 @@ use Rattle.std.specs.List.{AllZip, zip}
 use Rattle.m2_base.specs.States.{State}
 use Rattle.m2_base.specs.Units.{UnitTexts}
 use Rattle.m2_base.specs.declared.sites.Around.{Around}
-use Rattle.scope_core.specs.PlainScopes.{Plain, started}
 use Rattle.stream_split.specs.Sizes.{sizes_of}
 use Rattle.stream_split.specs.Streams.{StreamOf, streams_of}
 use Rattle.stream_split.specs.Views.{stream_view}
@@ -12,10 +11,6 @@ use Rattle.stream_split.specs.declared.streams.StreamTokens.{StreamTokens}
 use Rattle.task_state.specs.Progress.{IsAsFar}
 use Rattle.task_state.specs.Units.{IsOfUnit}
 use Rattle.task_state.specs.declared.task.Task.{Task}
-
--- the scopes of one thread for a unit, in which nothing is entered yet
-abbrev pub first_scopes : UnitTexts → Plain
-first_scopes u = started u (sizes_of (streams_of u))
 
 -- the task stands at this stream, and has done nothing
 abbrev pub IsNew : StreamOf → Around → Task → Type 0

@@ -1,0 +1,3 @@
+pub mod UnitOutputs
+pub mod Frames
+pub mod Starting
