@@ -3,13 +3,13 @@ use Rattle.std.specs.Prelude.{refl, ℕ, ◌+◌, ◌≤◌, ◌&&◌, ◌||◌,
 use Rattle.std.proofs.Common.{arith}
 use Rattle.code_form.specs.Heights.{Step}
 use Rattle.code_form.specs.declared.instr.Instr.TheVariants.{Add, AndJump, Dup, Eq, Ge, Jump, JumpFalse, Le, Load, Local, More, Move, OrJump, Push, Return, Store, Trap}
-use Rattle.expr_sem.specs.Coded.{Coded, characters, in_error, is_structured, value_code}
-use Rattle.expr_sem.specs.Fitting.{fitted_code}
-use Rattle.expr_sem.specs.Operators.{side_of}
-use Rattle.expr_sem.specs.Parts.{Part, call, none, plain, plain_step, skip, text, ◌⨟◌}
-use Rattle.expr_sem.specs.RecordFields.{with_field}
-use Rattle.expr_sem.specs.Values.{assigned_to}
-use Rattle.expr_sem.specs.Variables.{entry_coded}
+use Rattle.block_code.specs.Coded.{Coded, characters, in_error, is_structured, value_code}
+use Rattle.block_code.specs.Fitting.{fitted_code}
+use Rattle.block_code.specs.Operators.{side_of}
+use Rattle.block_code.specs.Parts.{Part, call, none, plain, plain_step, skip, text, ◌⨟◌}
+use Rattle.block_code.specs.RecordFields.{with_field}
+use Rattle.block_code.specs.Values.{assigned_to}
+use Rattle.block_code.specs.Variables.{entry_coded}
 use Rattle.m2_base.proofs.SoundOperands.{natural-value}
 use Rattle.m2_base.proofs.SoundTypes.{either}
 use Rattle.m2_base.specs.Gives.{Gives, and_then, gives}
@@ -28,12 +28,12 @@ use Rattle.m2_base.specs.Statics.Uses.{use_of}
 use Rattle.m2_base.specs.declared.trees.Ident.{Ident}
 use Rattle.m2_base.specs.declared.operands.Operand.{Operand}
 use Rattle.m2_base.specs.declared.operands.Operand.TheVariants.{Constant, InError, StringConstant, Variable}
-use Rattle.stmt_sem.specs.Assignments.{assignment, code_unless_bad, store_by, store_code}
-use Rattle.stmt_sem.specs.Cases.{label_by, label_code, labels_code, more_labels_code, no_case, selector_code, selector_value}
-use Rattle.stmt_sem.specs.Counting.{bound_value, by_constant, can_control, control_variable, controls, controls_by, for_first, for_last, for_more, for_step, for_test, has_code, is_zero, or_one}
-use Rattle.stmt_sem.specs.Returns.{return_alone, return_code, return_value}
-use Rattle.stmt_sem.specs.Tests.{false_code, test_code}
-use Rattle.stmt_sem.specs.Withs.{is_record, record_variable, with_code}
+use Rattle.block_code.specs.Assignments.{assignment, code_unless_bad, store_by, store_code}
+use Rattle.block_code.specs.Cases.{label_by, label_code, labels_code, more_labels_code, no_case, selector_code, selector_value}
+use Rattle.block_code.specs.Counting.{bound_value, by_constant, can_control, control_variable, controls, controls_by, for_first, for_last, for_more, for_step, for_test, has_code, is_zero, or_one}
+use Rattle.block_code.specs.Returns.{return_alone, return_code, return_value}
+use Rattle.block_code.specs.Tests.{false_code, test_code}
+use Rattle.block_code.specs.Withs.{is_record, record_variable, with_code}
 use Rattle.block_laws.proofs.Values.{HasValues, IsEntry, IsProcedure, plain_use, size_is}
 use Rattle.block_laws.proofs.Parts.{IsKept, Right, call-right, kept-on, skip-right, steps-if}
 use Rattle.block_laws.proofs.Coded.{Setting, W, X, all, assigned-w, error-w, error-x, fitted-right, nothing-right, ok, push, side-small, single, string-right, thn, value-right}

@@ -20,8 +20,8 @@ use Rattle.row_laws.proofs.ClearUnits.{unit_headings}
 use Rattle.row_laws.proofs.Members.{each_in}
 use Rattle.row_laws.proofs.TextBlocks.{blocks_read, trees_read}
 use Rattle.row_laws.proofs.Units.{each_block_then}
-use Rattle.stmt_sem.specs.BlockCode.{block_code, block_diags, body_of, run_of, size_diags}
-use Rattle.stmt_sem.specs.Tokens.{block_tokens}
+use Rattle.block_code.specs.BlockCode.{block_code, block_diags, body_of, run_of, size_diags}
+use Rattle.block_code.specs.StatementTokens.{block_tokens}
 use Rattle.row_laws.specs.Headings.{HasSoundHeadings}
 use Rattle.block_laws.specs.Named.{procedure_of}
 use Rattle.m2_base.specs.Statics.ReadStatements.{AreReadStatements}

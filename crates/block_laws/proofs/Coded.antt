@@ -6,15 +6,15 @@ use Rattle.code_form.specs.Instructions.{IsInstr}
 use Rattle.code_form.specs.Valid.{jump_of}
 use Rattle.code_form.specs.declared.instr.Instr.{Instr}
 use Rattle.code_form.specs.declared.instr.Instr.TheVariants.{Add, AndJump, Bit, Check, Diff, Div as Quotient, Dup, Eq, Ge, Gt, Inter, Le, Load, Lt, Mod as Remainder, Mul, Ne, Neg, OrJump, Push, Span, Store, Sub, Subset, Superset, SymDiff, Union, Abs as Magnitude, Cap as Capital, Halt as Stop, In as Member, New as Room, Not as Negation}
-use Rattle.expr_sem.specs.Coded.{Coded, bare, characters, coded, in_error, is_structured, no_high, taken, value_by, value_code, with_char}
-use Rattle.expr_sem.specs.Fitting.{check_of, fit_of, fitted_code, reaches_beyond}
-use Rattle.expr_sem.specs.Operators.{made, one_coded, one_instr, operation_code, scalar_instr, set_instr, side_of, two_coded, two_instr}
-use Rattle.expr_sem.specs.Parts.{Part, none, plain, plain_step, skip, text, ◌⨟◌}
-use Rattle.expr_sem.specs.ProcedureNames.{Target, procedure_code, target_of_procedure}
-use Rattle.expr_sem.specs.SetElements.{Elements, add_element, add_range, element_as, element_coded, set_by}
-use Rattle.expr_sem.specs.StandardFunctions.{abs_code, as_variable, as_variable_by, cap_code, function_of_one, high_code, high_of, high_of_range, high_of_variable, magnitude, named_type, odd_code, on_value, size_code, value_of_type}
-use Rattle.expr_sem.specs.StandardProcedures.{counting_range, disposed, element_of_base, first_of_two, included, is_pointer_type, is_step, member_instrs, new_room, no_value, number_of_type, of_no_argument, of_one_argument, of_two_arguments, one, ordinal_variable, pointer_variable, set_member, step_instr, step_instrs, step_number, step_type, stepped, update, variable_argument}
-use Rattle.expr_sem.specs.Values.{as_value, as_value_by, assigned_to, in_range, in_range_by, is_passed_over}
+use Rattle.block_code.specs.Coded.{Coded, bare, characters, coded, in_error, is_structured, no_high, taken, value_by, value_code, with_char}
+use Rattle.block_code.specs.Fitting.{check_of, fit_of, fitted_code, reaches_beyond}
+use Rattle.block_code.specs.Operators.{made, one_coded, one_instr, operation_code, scalar_instr, set_instr, side_of, two_coded, two_instr}
+use Rattle.block_code.specs.Parts.{Part, none, plain, plain_step, skip, text, ◌⨟◌}
+use Rattle.block_code.specs.ProcedureNames.{Target, procedure_code, target_of_procedure}
+use Rattle.block_code.specs.SetElements.{Elements, add_element, add_range, element_as, element_coded, set_by}
+use Rattle.block_code.specs.StandardFunctions.{abs_code, as_variable, as_variable_by, cap_code, function_of_one, high_code, high_of, high_of_range, high_of_variable, magnitude, named_type, odd_code, on_value, size_code, value_of_type}
+use Rattle.block_code.specs.StandardProcedures.{counting_range, disposed, element_of_base, first_of_two, included, is_pointer_type, is_step, member_instrs, new_room, no_value, number_of_type, of_no_argument, of_one_argument, of_two_arguments, one, ordinal_variable, pointer_variable, set_member, step_instr, step_instrs, step_number, step_type, stepped, update, variable_argument}
+use Rattle.block_code.specs.Values.{as_value, as_value_by, assigned_to, in_range, in_range_by, is_passed_over}
 use Rattle.m2_base.proofs.SoundOperands.{AreValues, natural-value}
 use Rattle.m2_base.proofs.SoundTypes.{either}
 use Rattle.m2_base.specs.Gives.{Gives, gives}

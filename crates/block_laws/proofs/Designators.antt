@@ -4,18 +4,18 @@ use Rattle.std.proofs.Common.{ap, subst, sym, arith, inl, inr}
 use Rattle.code_form.specs.Heights.{Step}
 use Rattle.code_form.specs.declared.instr.Instr.{Instr}
 use Rattle.code_form.specs.declared.instr.Instr.TheVariants.{Index, IndexOpen, Load, Move, Nil, Offset, Push}
-use Rattle.expr_sem.specs.Arguments.{address_by, after_argument, alike, argument, array_argument, by_address, by_mode, by_value, checked_mode, is_variable, open_argument, open_element, value_argument_by}
-use Rattle.expr_sem.specs.Calls.{Called, allowed, call_code, call_coded, called, called_by, cells_of_all, is_same_truth, lacking_call, no_call, of_target, of_variable, procedure_call, result_cells, standard_call}
-use Rattle.expr_sem.specs.Coded.{Coded, characters, coded, in_error, taken, value_code}
-use Rattle.expr_sem.specs.Elements.{element_of_array, element_of_open, index_instr, of_array, of_pointer, select_element_by, select_target_by}
-use Rattle.expr_sem.specs.Expressions.{by_called}
-use Rattle.expr_sem.specs.Parts.{Part, call, plain, plain_step, text, with_record, ◌⨟◌}
-use Rattle.expr_sem.specs.ProcedureNames.{Target, target_of_procedure}
-use Rattle.expr_sem.specs.RecordFields.{field_by, field_or, field_or_use, found_field, name_coded, of_record, offset_code, select_field_by, with_field}
-use Rattle.expr_sem.specs.StandardFunctions.{high_code}
-use Rattle.expr_sem.specs.StandardProcedures.{is_function, takes_count}
-use Rattle.expr_sem.specs.Values.{as_value, assigned_to, in_range}
-use Rattle.expr_sem.specs.Variables.{cell_instr, entry_coded, high_of_mode, through, with_address}
+use Rattle.block_code.specs.Arguments.{address_by, after_argument, alike, argument, array_argument, by_address, by_mode, by_value, checked_mode, is_variable, open_argument, open_element, value_argument_by}
+use Rattle.block_code.specs.Calls.{Called, allowed, call_code, call_coded, called, called_by, cells_of_all, is_same_truth, lacking_call, no_call, of_target, of_variable, procedure_call, result_cells, standard_call}
+use Rattle.block_code.specs.Coded.{Coded, characters, coded, in_error, taken, value_code}
+use Rattle.block_code.specs.Elements.{element_of_array, element_of_open, index_instr, of_array, of_pointer, select_element_by, select_target_by}
+use Rattle.block_code.specs.Expressions.{by_called}
+use Rattle.block_code.specs.Parts.{Part, call, plain, plain_step, text, with_record, ◌⨟◌}
+use Rattle.block_code.specs.ProcedureNames.{Target, target_of_procedure}
+use Rattle.block_code.specs.RecordFields.{field_by, field_or, field_or_use, found_field, name_coded, of_record, offset_code, select_field_by, with_field}
+use Rattle.block_code.specs.StandardFunctions.{high_code}
+use Rattle.block_code.specs.StandardProcedures.{is_function, takes_count}
+use Rattle.block_code.specs.Values.{as_value, assigned_to, in_range}
+use Rattle.block_code.specs.Variables.{cell_instr, entry_coded, high_of_mode, through, with_address}
 use Rattle.m2_base.proofs.EachLaws.{each_found}
 use Rattle.m2_base.proofs.SoundOperands.{AreValues, natural-value}
 use Rattle.m2_base.proofs.SoundTypes.{either}
@@ -45,7 +45,7 @@ use Rattle.m2_base.specs.declared.trees.Ident.{Ident}
 use Rattle.m2_base.specs.declared.builtins.Builtin.{Builtin}
 use Rattle.m2_base.specs.declared.operands.Operand.{Operand}
 use Rattle.m2_base.specs.declared.operands.Operand.TheVariants.{Computed, InError, ModuleName, Procedure, StandardProcedure, StringConstant, Variable}
-use Rattle.expr_sem.specs.Values.{has_broken_part}
+use Rattle.block_code.specs.Values.{has_broken_part}
 use Rattle.row_laws.specs.RowRanges.{HasOperands, IsIndexRange}
 use Rattle.block_laws.specs.Sight.{IsDeclared}
 use Rattle.block_laws.proofs.Values.{HasValues, IsEntry, IsProcedure, entry_operand, member_use, plain_use, range_values, size_is}

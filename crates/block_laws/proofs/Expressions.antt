@@ -2,17 +2,17 @@
 use Rattle.std.specs.Prelude.{ℕ, ◌≤◌, true, false, pos, List, [], ◌∷◌, length, Option}
 use Rattle.std.proofs.Common.{arith}
 use Rattle.code_form.specs.Heights.{Step}
-use Rattle.expr_sem.specs.Arguments.{argument}
-use Rattle.expr_sem.specs.Calls.{called}
-use Rattle.expr_sem.specs.Coded.{Coded}
-use Rattle.expr_sem.specs.Elements.{select_element}
-use Rattle.expr_sem.specs.Expressions.{call_alone, continued, count_of_exprs, designated, element, elements, expression, followed, form_coded, indexed, looked_at, passed, selected, selector, standard, value}
-use Rattle.expr_sem.specs.Operators.{one_coded}
-use Rattle.expr_sem.specs.Parts.{Part}
-use Rattle.expr_sem.specs.RecordFields.{name_coded}
-use Rattle.expr_sem.specs.SetElements.{Elements, element_coded, no_elements_yet, set_by}
-use Rattle.expr_sem.specs.StandardProcedures.{first_of_two}
-use Rattle.expr_sem.specs.Values.{as_value}
+use Rattle.block_code.specs.Arguments.{argument}
+use Rattle.block_code.specs.Calls.{called}
+use Rattle.block_code.specs.Coded.{Coded}
+use Rattle.block_code.specs.Elements.{select_element}
+use Rattle.block_code.specs.Expressions.{call_alone, continued, count_of_exprs, designated, element, elements, expression, followed, form_coded, indexed, looked_at, passed, selected, selector, standard, value}
+use Rattle.block_code.specs.Operators.{one_coded}
+use Rattle.block_code.specs.Parts.{Part}
+use Rattle.block_code.specs.RecordFields.{name_coded}
+use Rattle.block_code.specs.SetElements.{Elements, element_coded, no_elements_yet, set_by}
+use Rattle.block_code.specs.StandardProcedures.{first_of_two}
+use Rattle.block_code.specs.Values.{as_value}
 use Rattle.m2_base.proofs.SoundOperands.{natural-value}
 use Rattle.m2_base.specs.Gives.{Gives}
 use Rattle.m2_base.specs.declared.rows.Place.{Place}

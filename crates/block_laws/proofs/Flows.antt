@@ -3,10 +3,10 @@ use Rattle.std.specs.Prelude.{ℕ, zero, suc, ◌+◌, ◌<◌, ◌≤◌, ℤ, 
 use Rattle.std.proofs.Common.{arith}
 use Rattle.code_form.specs.Heights.{Step}
 use Rattle.code_form.specs.declared.instr.Instr.TheVariants.{Jump, JumpFalse}
-use Rattle.expr_sem.specs.Parts.{Made, Part, Spot, plain_step, steps_size}
+use Rattle.block_code.specs.Parts.{Made, Part, Spot, plain_step, steps_size}
 use Rattle.m2_base.specs.Lists.{Each}
 use Rattle.m2_base.specs.Statics.Cells.{capped}
-use Rattle.stmt_sem.specs.Flows.{Flow, Run, back, choose, counted, exit, for_ever, in_with, jump_size, nothing, straight, until_true, when, while_true, with_cell, ◌⨾◌}
+use Rattle.block_code.specs.Flows.{Flow, Run, back, choose, counted, exit, for_ever, in_with, jump_size, nothing, straight, until_true, when, while_true, with_cell, ◌⨾◌}
 use Rattle.block_laws.proofs.Parts.{IsKept, IsSpot, Leads, Right, kept-on, leads-then, stays}
 use Rattle.m2_base.proofs.EachLaws.{each_append}
 

@@ -3,7 +3,7 @@
 use Rattle.std.specs.Prelude.{◌≡◌, refl, ℕ, zero, suc, ◌+◌, ◌<◌, ◌≤◌, ◌==◌, ◌&&◌, Bool, true, false, is_some, if◌then◌else◌, List, [], ◌∷◌, ◌++◌, slice_get, unwrap_or, Option, Some, None}
 use Rattle.std.proofs.Common.{ap, subst, sym, ◌∙◌, inl, inr, arith}
 use Rattle.std.proofs.lemmas.Bool.{eq-eqb, eqb-true, and_parts}
-use Rattle.expr_sem.specs.Calls.{cells_of, cells_of_all, result_cells}
+use Rattle.block_code.specs.Calls.{cells_of, cells_of_all, result_cells}
 use Rattle.m2_base.specs.Lists.{Each, IsIn, WhereKept}
 use Rattle.m2_base.specs.Rows.{at_place, row_meaning}
 use Rattle.m2_base.specs.Statics.Assignable.{is_open_kind}
@@ -32,7 +32,7 @@ use Rattle.row_laws.proofs.Lookups.{named_at}
 use Rattle.row_laws.proofs.Members.{each_in, each_at}
 use Rattle.row_laws.proofs.Whole.{whole-rows}
 use Rattle.row_laws.specs.Procedures.{IsDeclared, IsSeenAs, IsTypeOf}
-use Rattle.stmt_sem.specs.BlockCode.{body_of, run_of, size_diags}
+use Rattle.block_code.specs.BlockCode.{body_of, run_of, size_diags}
 use Rattle.block_laws.specs.Headings.{HasNamedHeadings, IsNamedProcedure}
 use Rattle.row_laws.specs.Headings.{AreSoundFor, HasSoundHeadings, HasSoundParameters}
 use Rattle.block_laws.proofs.BlocksAt.{unit_made}

@@ -11,10 +11,10 @@ use Rattle.code_form.specs.declared.effect.Effect.TheVariants.{CallsImport, Call
 use Rattle.code_form.specs.declared.effect.Effect.{Effect}
 use Rattle.code_form.specs.declared.instr.Instr.TheVariants.{Call, CallX, Global, Local}
 use Rattle.code_form.specs.declared.instr.Instr.{Instr}
-use Rattle.expr_sem.specs.Calls.{call_instr, cells_of, cells_of_all, links_to, result_cells}
-use Rattle.expr_sem.specs.Parts.{no_callees, plain_step}
-use Rattle.expr_sem.specs.ProcedureNames.{Target, import_number, import_number_beside, import_of_target, is_foreign, is_own, is_own_definition, target, target_by, target_of_entry, target_of_procedure}
-use Rattle.expr_sem.specs.Variables.{cell_instr, links_out}
+use Rattle.block_code.specs.Calls.{call_instr, cells_of, cells_of_all, links_to, result_cells}
+use Rattle.block_code.specs.Parts.{no_callees, plain_step}
+use Rattle.block_code.specs.ProcedureNames.{Target, import_number, import_number_beside, import_of_target, is_foreign, is_own, is_own_definition, target, target_by, target_of_entry, target_of_procedure}
+use Rattle.block_code.specs.Variables.{cell_instr, links_out}
 use Rattle.m2_base.proofs.SoundTypes.{either}
 use Rattle.m2_base.specs.Lists.{Each, WhereKept}
 use Rattle.m2_base.specs.Rows.{IsSmall, row_meaning}
@@ -36,10 +36,10 @@ use Rattle.m2_base.specs.Statics.UnitNotes.{complete_context}
 use Rattle.m2_base.specs.Tables.{rows_at}
 use Rattle.m2_base.specs.declared.trees.declarations.StreamKind.{StreamKind}
 use Rattle.m2_base.specs.declared.trees.declarations.StreamKind.TheVariants.{Procedure}
-use Rattle.stmt_sem.specs.BlockCode.{first_cell, first_spot, run_of, stand_of}
-use Rattle.stmt_sem.specs.Flows.{Run}
-use Rattle.stmt_sem.specs.Places.{OthersInRange, block_steps}
-use Rattle.stmt_sem.specs.Statements.{flow_of}
+use Rattle.block_code.specs.BlockCode.{first_cell, first_spot, run_of, stand_of}
+use Rattle.block_code.specs.Flows.{Run}
+use Rattle.block_code.specs.Places.{OthersInRange, block_steps}
+use Rattle.block_code.specs.Statements.{flow_of}
 use Rattle.m2_base.specs.Statics.ReadStatements.{AreReadStatements}
 use Rattle.row_laws.specs.RowRanges.{BlockInRange, HasOperands, IsCopyInRange, RowsInRange}
 use Rattle.block_laws.specs.Sight.{IsDeclared, Sees, value_instr}

@@ -4,7 +4,7 @@ use Rattle.std.proofs.Common.{ap, subst, sym, ◌∙◌, inl, inr, arith}
 use Rattle.std.proofs.lemmas.Bool.{eqb-true, eqb-false}
 use Rattle.code_form.specs.Modules.{Procedure, World}
 use Rattle.code_form.specs.Valid.{linked, outer_of, outer_or}
-use Rattle.expr_sem.specs.Variables.{links_out}
+use Rattle.block_code.specs.Variables.{links_out}
 use Rattle.m2_base.specs.Lists.{Each, IsIn}
 use Rattle.m2_base.specs.Rows.{row_meaning}
 use Rattle.m2_base.specs.Statics.Blocks.{BlockTree, UnitTrees, blocks_of, home_of, with_own}
@@ -12,7 +12,7 @@ use Rattle.m2_base.specs.Statics.Contexts.{Block, level_of}
 use Rattle.m2_base.specs.Tables.{rows_at}
 use Rattle.m2_base.specs.declared.rows.Row.{Row}
 use Rattle.row_laws.specs.RowRanges.{IsBelow}
-use Rattle.stmt_sem.specs.BlockCode.{outer_of as outer_number, params_of, results_of}
+use Rattle.block_code.specs.BlockCode.{outer_of as outer_number, params_of, results_of}
 use Rattle.block_laws.proofs.Chains.{IsInner, Stands, blocks_stand, first_behind, first_here, level_by}
 use Rattle.row_laws.proofs.Members.{each_in}
 

@@ -5,8 +5,8 @@ use Rattle.std.proofs.lemmas.Bool.{eq-eqb, lt-ltb}
 use Rattle.code_form.specs.Modules.{Procedure, World}
 use Rattle.code_form.specs.Valid.{IsValidCode, names_what_is_there}
 use Rattle.code_form.specs.declared.instr.Instr.TheVariants.{Global, Local}
-use Rattle.expr_sem.specs.ProcedureNames.{import_number, is_own, is_own_definition}
-use Rattle.expr_sem.specs.Variables.{cell_instr, links_out}
+use Rattle.block_code.specs.ProcedureNames.{import_number, is_own, is_own_definition}
+use Rattle.block_code.specs.Variables.{cell_instr, links_out}
 use Rattle.m2_base.specs.Lists.{Each}
 use Rattle.m2_base.specs.Rows.{row_meaning}
 use Rattle.m2_base.specs.declared.rows.Mode.TheVariants.{ByAddress, Open, Plain}
@@ -23,8 +23,8 @@ use Rattle.m2_base.specs.Statics.UnitNotes.{complete_context}
 use Rattle.m2_base.specs.Tables.{rows_at}
 use Rattle.m2_base.specs.declared.trees.declarations.StreamKind.{StreamKind}
 use Rattle.m2_base.specs.declared.trees.declarations.StreamKind.TheVariants.{Main}
-use Rattle.stmt_sem.specs.BlockCode.{block_code, block_diags}
-use Rattle.stmt_sem.specs.Tokens.{block_tokens}
+use Rattle.block_code.specs.BlockCode.{block_code, block_diags}
+use Rattle.block_code.specs.StatementTokens.{block_tokens}
 use Rattle.block_laws.specs.Lone.{AreOfLone, IsLone, IsOfLone, lone_world}
 use Rattle.block_laws.specs.Named.{BlockNamesThere, HasCode, procedure_of}
 use Rattle.m2_base.specs.Statics.ReadStatements.{AreReadStatements}

@@ -21,8 +21,8 @@ use Rattle.m2_base.specs.Trees.{Heading, Stream}
 use Rattle.m2_base.specs.declared.outputs.HeadingNote.{HeadingNote}
 use Rattle.row_laws.specs.Procedures.{IsDeclared, IsSeenAs, ProceduresAreDeclared}
 use Rattle.row_laws.specs.RowRanges.{BlockInRange, CellsAreThere, EachBlock}
-use Rattle.stmt_sem.specs.BlockCode.{block_code, block_diags}
-use Rattle.stmt_sem.specs.Tokens.{block_tokens}
+use Rattle.block_code.specs.BlockCode.{block_code, block_diags}
+use Rattle.block_code.specs.StatementTokens.{block_tokens}
 use Rattle.block_laws.specs.Lone.{AreOfLone, IsLone, IsLoneTree, IsOfLone, IsPlainItem, lone_unit, lone_world}
 use Rattle.block_laws.specs.Named.{procedure_of}
 use Rattle.m2_base.specs.Statics.ReadStatements.{AreReadStatements}

@@ -16,7 +16,7 @@ use Rattle.row_laws.specs.TextTrees.{AreOfTexts, HasTree}
 use Rattle.row_laws.proofs.Chains.{IsChained, blocks_chained}
 use Rattle.row_laws.proofs.SightUnits.{unit_sight}
 use Rattle.row_laws.proofs.Units.{unit_cells, each_block_with}
-use Rattle.stmt_sem.specs.BlockCode.{first_cell}
+use Rattle.block_code.specs.BlockCode.{first_cell}
 use Rattle.block_laws.specs.MainBlocks.{IsMainBlock}
 use Rattle.block_laws.specs.Named.{HasCode}
 use Rattle.block_laws.specs.Sight.{IsInSight, Sees}

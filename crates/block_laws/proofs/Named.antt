@@ -7,10 +7,10 @@ use Rattle.code_form.specs.Modules.{Procedure, World}
 use Rattle.code_form.specs.Valid.{IsValidCode, callees_of, has_local, linked, names_what_is_there, when_there}
 use Rattle.code_form.specs.declared.instr.Instr.TheVariants.{Call, CallVar, CallX, Global, Local, OpenCopy, Return, Str, Proc as ProcValue}
 use Rattle.code_form.specs.declared.instr.Instr.{Instr}
-use Rattle.expr_sem.specs.Calls.{result_cells}
-use Rattle.expr_sem.specs.Parts.{Spot, plain_step}
-use Rattle.expr_sem.specs.ProcedureNames.{Target, import_number, is_own, target_of_procedure}
-use Rattle.expr_sem.specs.Variables.{cell_instr, links_out}
+use Rattle.block_code.specs.Calls.{result_cells}
+use Rattle.block_code.specs.Parts.{Spot, plain_step}
+use Rattle.block_code.specs.ProcedureNames.{Target, import_number, is_own, target_of_procedure}
+use Rattle.block_code.specs.Variables.{cell_instr, links_out}
 use Rattle.m2_base.proofs.SoundTypes.{either}
 use Rattle.m2_base.specs.Lists.{Each}
 use Rattle.m2_base.specs.declared.rows.Place.{Place}
@@ -26,12 +26,12 @@ use Rattle.m2_base.specs.Statics.UnitNotes.{complete_context}
 use Rattle.m2_base.specs.declared.trees.Ident.{Ident}
 use Rattle.m2_base.specs.declared.trees.declarations.StreamKind.{StreamKind}
 use Rattle.m2_base.specs.declared.trees.declarations.StreamKind.TheVariants.{Definition, Main, Procedure as ProcedureStream}
-use Rattle.stmt_sem.proofs.ReturnTakings.{returns-agree}
-use Rattle.stmt_sem.proofs.ValidBlocks.{block-valid}
-use Rattle.stmt_sem.specs.BlockCode.{block_code, block_diags, body_of, first_cell, first_spot, run_of, size_by, size_diags, too_many_at}
-use Rattle.stmt_sem.specs.Flows.{Run}
-use Rattle.stmt_sem.specs.Places.{NameThere, ProceduresAgree, calls_procedure}
-use Rattle.stmt_sem.specs.Tokens.{block_tokens}
+use Rattle.block_code.proofs.ReturnTakings.{returns-agree}
+use Rattle.block_code.proofs.ValidBlocks.{block-valid}
+use Rattle.block_code.specs.BlockCode.{block_code, block_diags, body_of, first_cell, first_spot, run_of, size_by, size_diags, too_many_at}
+use Rattle.block_code.specs.Flows.{Run}
+use Rattle.block_code.specs.Places.{NameThere, ProceduresAgree, calls_procedure}
+use Rattle.block_code.specs.StatementTokens.{block_tokens}
 use Rattle.block_laws.specs.Named.{BlockNamesThere, HasCode, procedure_of}
 use Rattle.m2_base.specs.Statics.ReadStatements.{AreReadStatements}
 use Rattle.row_laws.specs.RowRanges.{BlockInRange, IsCopyBelow}

@@ -29,7 +29,7 @@ use Rattle.m2_base.specs.declared.rows.Row.{Row}
 use Rattle.m2_base.specs.declared.rows.RowMeaning.TheVariants.{Proc, ProcType}
 use Rattle.m2_base.specs.declared.rows.RowMeaning.{RowMeaning}
 use Rattle.m2_base.specs.declared.trees.declarations.StreamKind.{StreamKind}
-use Rattle.stmt_sem.specs.BlockCode.{body_of, run_of, size_diags}
+use Rattle.block_code.specs.BlockCode.{body_of, run_of, size_diags}
 use Rattle.row_laws.proofs.ImportedRows.{alias_shapes, import_aliases, own_shaped}
 use Rattle.row_laws.proofs.Joined.{none_left}
 use Rattle.row_laws.proofs.Members.{each_in}

@@ -8,7 +8,7 @@ use Rattle.code_form.specs.Modules.{Import, Procedure, World}
 use Rattle.code_form.specs.Valid.{callees_of, can_call, has_heading, heading_or, headings_or, import_of, is_value, linked, procedure_or, when_there}
 use Rattle.code_form.specs.declared.instr.Instr.TheVariants.{Call, CallX}
 use Rattle.code_form.specs.declared.instr.Instr.{Instr}
-use Rattle.expr_sem.specs.Calls.{cells_of_all, result_cells}
+use Rattle.block_code.specs.Calls.{cells_of_all, result_cells}
 use Rattle.m2_base.specs.Lists.{IsIn}
 use Rattle.m2_base.specs.Statics.Assignable.{is_open_array}
 use Rattle.m2_base.specs.Statics.Blocks.{BlockTree, UnitTrees, blocks_of, home_of}
@@ -23,7 +23,7 @@ use Rattle.m2_base.specs.declared.rows.Place.{Place}
 use Rattle.m2_base.specs.declared.rows.Row.{Row}
 use Rattle.row_laws.specs.Procedures.{IsTypeOf, cells_of_parameters}
 use Rattle.row_laws.specs.UnitBlocks.{HasItsProcedures, IsProcedureIn}
-use Rattle.stmt_sem.specs.BlockCode.{params_of, results_of}
+use Rattle.block_code.specs.BlockCode.{params_of, results_of}
 use Rattle.block_laws.specs.Sight.{call_step}
 use Rattle.block_laws.specs.Worlds.{callee_of}
 use Rattle.block_laws.proofs.Chains.{blocks_stand}

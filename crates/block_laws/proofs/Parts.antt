@@ -9,11 +9,11 @@ use Rattle.code_form.specs.Instructions.{IsInstr}
 use Rattle.code_form.specs.Valid.{jump_of}
 use Rattle.code_form.specs.declared.instr.Instr.TheVariants.{Call, CallVar, CallX, Global, Load, Local, Move, OpenCopy, Proc as ProcValue, Return, Str}
 use Rattle.code_form.specs.declared.instr.Instr.{Instr}
-use Rattle.expr_sem.specs.Arguments.{string_copy}
-use Rattle.expr_sem.specs.Calls.{call_instr, cells_of_all, result_cells}
-use Rattle.expr_sem.specs.Parts.{Made, Part, Spot, call, none, plain, plain_step, skip, steps, text, unless_too_many, with_record, ◌⨟◌}
-use Rattle.expr_sem.specs.ProcedureNames.{Target, target_of_procedure}
-use Rattle.expr_sem.specs.Variables.{cell_instr}
+use Rattle.block_code.specs.Arguments.{string_copy}
+use Rattle.block_code.specs.Calls.{call_instr, cells_of_all, result_cells}
+use Rattle.block_code.specs.Parts.{Made, Part, Spot, call, none, plain, plain_step, skip, steps, text, unless_too_many, with_record, ◌⨟◌}
+use Rattle.block_code.specs.ProcedureNames.{Target, target_of_procedure}
+use Rattle.block_code.specs.Variables.{cell_instr}
 use Rattle.m2_base.specs.Lists.{Each}
 use Rattle.m2_base.specs.declared.rows.Mode.TheVariants.{Open}
 use Rattle.m2_base.specs.declared.rows.Place.{Place}

@@ -21,8 +21,8 @@ use Rattle.m2_base.specs.declared.trees.declarations.StreamKind.TheVariants.{Def
 use Rattle.m2_base.proofs.EachLaws.{each_all}
 use Rattle.m2_base.proofs.StandingItems.{block_at}
 use Rattle.m2_base.proofs.StandingNotes.{Noted, NotesAt, join, none, notes_either, one}
-use Rattle.stmt_sem.specs.BlockCode.{block_diags, body_of, cells_with, run_of, size_by, size_diags, stand_of, too_many_at}
-use Rattle.stmt_sem.specs.Flows.{Run}
+use Rattle.block_code.specs.BlockCode.{block_diags, body_of, cells_with, run_of, size_by, size_diags, stand_of, too_many_at}
+use Rattle.block_code.specs.Flows.{Run}
 use Rattle.block_laws.proofs.EveryTree.{stream_all}
 use Rattle.block_laws.proofs.StandingClosings.{RowsHere, closing_at, home_rows_here}
 use Rattle.block_laws.proofs.StandingFlows.{statements_at}

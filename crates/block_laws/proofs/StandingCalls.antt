@@ -17,14 +17,14 @@ use Rattle.m2_base.specs.declared.builtins.Builtin.{Builtin}
 use Rattle.m2_base.specs.declared.operands.Operand.{Operand}
 use Rattle.m2_base.specs.declared.operands.Operand.TheVariants.{InError, ModuleName, Procedure, StandardProcedure, StringConstant, Variable}
 use Rattle.m2_base.proofs.StandingNotes.{GivesAt, gives_either, join, none, one}
-use Rattle.expr_sem.specs.Arguments.{address_by, alike, argument, array_argument, by_mode, by_value, checked_mode, is_variable, open_argument, open_element, string_argument}
-use Rattle.expr_sem.specs.Calls.{Called, allowed, allowed_by_type, called, called_by, is_same_truth, lacking_call, no_call, of_target, of_variable, procedure_call, standard_call}
-use Rattle.expr_sem.specs.Coded.{Coded}
-use Rattle.expr_sem.specs.Expressions.{by_called}
-use Rattle.expr_sem.specs.Parts.{Part}
-use Rattle.expr_sem.specs.ProcedureNames.{target_of_procedure}
-use Rattle.expr_sem.specs.StandardProcedures.{is_function, takes_count}
-use Rattle.expr_sem.specs.Values.{as_value}
+use Rattle.block_code.specs.Arguments.{address_by, alike, argument, array_argument, by_mode, by_value, checked_mode, is_variable, open_argument, open_element, string_argument}
+use Rattle.block_code.specs.Calls.{Called, allowed, allowed_by_type, called, called_by, is_same_truth, lacking_call, no_call, of_target, of_variable, procedure_call, standard_call}
+use Rattle.block_code.specs.Coded.{Coded}
+use Rattle.block_code.specs.Expressions.{by_called}
+use Rattle.block_code.specs.Parts.{Part}
+use Rattle.block_code.specs.ProcedureNames.{target_of_procedure}
+use Rattle.block_code.specs.StandardProcedures.{is_function, takes_count}
+use Rattle.block_code.specs.Values.{as_value}
 use Rattle.block_laws.proofs.StandingOperands.{as_value_at, assigned_at}
 
 module _ (Here : ℕ → Type 0) where

@@ -21,17 +21,17 @@ use Rattle.m2_base.specs.declared.operands.Operand.{Operand}
 use Rattle.m2_base.specs.declared.operands.Operand.TheVariants.{Constant, InError, Variable}
 use Rattle.m2_base.proofs.StandingConstants.{constant_at, first_stand, first_token}
 use Rattle.m2_base.proofs.StandingNotes.{GivesAt, gives_either, join, none, one, use_at}
-use Rattle.expr_sem.specs.Coded.{Coded}
-use Rattle.expr_sem.specs.Expressions.{designated}
-use Rattle.expr_sem.specs.RecordFields.{with_field}
-use Rattle.expr_sem.specs.Variables.{entry_coded}
-use Rattle.stmt_sem.specs.Assignments.{assignment}
-use Rattle.stmt_sem.specs.Cases.{selector_type}
-use Rattle.stmt_sem.specs.Counting.{bound_value, by_constant, can_control, control_variable, controls, controls_by, is_zero}
-use Rattle.stmt_sem.specs.Returns.{return_alone, return_value}
-use Rattle.stmt_sem.specs.Statements.{Stand, arm_flow, arms_flow, by_of, case_flow, cases_flow, else_flow, exit_of, flow_of, form_flow, in_loop, return_of, statement_flow, test, value_at as value_of, variable, within}
-use Rattle.stmt_sem.specs.Tests.{test_code}
-use Rattle.stmt_sem.specs.Withs.{is_record, record_variable}
+use Rattle.block_code.specs.Coded.{Coded}
+use Rattle.block_code.specs.Expressions.{designated}
+use Rattle.block_code.specs.RecordFields.{with_field}
+use Rattle.block_code.specs.Variables.{entry_coded}
+use Rattle.block_code.specs.Assignments.{assignment}
+use Rattle.block_code.specs.Cases.{selector_type}
+use Rattle.block_code.specs.Counting.{bound_value, by_constant, can_control, control_variable, controls, controls_by, is_zero}
+use Rattle.block_code.specs.Returns.{return_alone, return_value}
+use Rattle.block_code.specs.Statements.{Stand, arm_flow, arms_flow, by_of, case_flow, cases_flow, else_flow, exit_of, flow_of, form_flow, in_loop, return_of, statement_flow, test, value_at as value_of, variable, within}
+use Rattle.block_code.specs.Tests.{test_code}
+use Rattle.block_code.specs.Withs.{is_record, record_variable}
 use Rattle.m2_base.proofs.StandingTypes.{labels_at}
 use Rattle.block_laws.proofs.StandingOperands.{assigned_at}
 use Rattle.block_laws.proofs.StandingProcedures.{as_variable_at}

@@ -18,13 +18,13 @@ use Rattle.m2_base.specs.declared.operands.Operand.{Operand}
 use Rattle.m2_base.specs.declared.operands.Operand.TheVariants.{Constant, InError, ModuleName, NamedType, NotConstant, Procedure, StandardProcedure, Variable}
 use Rattle.m2_base.proofs.StandingNotes.{GivesAt, gives_either, join, none, one, use_at}
 use Rattle.m2_base.proofs.StandingOperations.{apply_at, element_at, operate_at}
-use Rattle.expr_sem.specs.Coded.{Coded, taken}
-use Rattle.expr_sem.specs.Elements.{element_of_array, element_of_open, of_array, of_pointer, select_element, select_element_by, select_target, select_target_by}
-use Rattle.expr_sem.specs.Operators.{one_coded, two_coded}
-use Rattle.expr_sem.specs.Parts.{Part}
-use Rattle.expr_sem.specs.RecordFields.{field_or_use, found_field, name_coded, of_record, select_field, select_field_by, with_field}
-use Rattle.expr_sem.specs.SetElements.{element_coded}
-use Rattle.expr_sem.specs.Values.{as_value, as_value_by, assigned_to, in_range, in_range_by, is_passed_over}
+use Rattle.block_code.specs.Coded.{Coded, taken}
+use Rattle.block_code.specs.Elements.{element_of_array, element_of_open, of_array, of_pointer, select_element, select_element_by, select_target, select_target_by}
+use Rattle.block_code.specs.Operators.{one_coded, two_coded}
+use Rattle.block_code.specs.Parts.{Part}
+use Rattle.block_code.specs.RecordFields.{field_or_use, found_field, name_coded, of_record, select_field, select_field_by, with_field}
+use Rattle.block_code.specs.SetElements.{element_coded}
+use Rattle.block_code.specs.Values.{as_value, as_value_by, assigned_to, in_range, in_range_by, is_passed_over}
 
 module _ (Here : ℕ → Type 0) where
   -- ** Values

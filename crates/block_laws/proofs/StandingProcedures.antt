@@ -19,12 +19,12 @@ use Rattle.m2_base.specs.declared.operands.Operand.{Operand}
 use Rattle.m2_base.specs.declared.operands.Operand.TheVariants.{Computed, InError, NotConstant, Variable}
 use Rattle.m2_base.proofs.StandingNotes.{GivesAt, gives_either, join, none, one}
 use Rattle.m2_base.proofs.StandingOperations.{abs_at, cap_at, chr_at, max_at, min_at, odd_at, ord_at, size_at, val_at}
-use Rattle.expr_sem.specs.Coded.{Coded, taken}
-use Rattle.expr_sem.specs.Fitting.{fitted_code}
-use Rattle.expr_sem.specs.Parts.{Part}
-use Rattle.expr_sem.specs.StandardFunctions.{abs_code, as_variable, as_variable_by, cap_code, function_of_one, high_of, high_of_variable, named_type, odd_code, on_value, value_of_type}
-use Rattle.expr_sem.specs.StandardProcedures.{beside, element_of_base, first_of_two, is_pointer_type, is_step, number_of_type, of_one_argument, of_two_arguments, ordinal_variable, pointer_variable, set_member, set_variable, step_number, step_type, variable_argument, variable_where}
-use Rattle.expr_sem.specs.Values.{as_value}
+use Rattle.block_code.specs.Coded.{Coded, taken}
+use Rattle.block_code.specs.Fitting.{fitted_code}
+use Rattle.block_code.specs.Parts.{Part}
+use Rattle.block_code.specs.StandardFunctions.{abs_code, as_variable, as_variable_by, cap_code, function_of_one, high_of, high_of_variable, named_type, odd_code, on_value, value_of_type}
+use Rattle.block_code.specs.StandardProcedures.{beside, element_of_base, first_of_two, is_pointer_type, is_step, number_of_type, of_one_argument, of_two_arguments, ordinal_variable, pointer_variable, set_member, set_variable, step_number, step_type, variable_argument, variable_where}
+use Rattle.block_code.specs.Values.{as_value}
 use Rattle.block_laws.proofs.StandingOperands.{as_value_at, in_range_at}
 
 module _ (Here : ℕ → Type 0) where

@@ -12,14 +12,14 @@ use Rattle.m2_base.specs.declared.builtins.Builtin.{Builtin}
 use Rattle.m2_base.proofs.StandingConstants.{first_stand, first_token}
 use Rattle.m2_base.proofs.StandingNotes.{GivesAt, join, none}
 use Rattle.m2_base.proofs.StandingOperations.{set_type_at}
-use Rattle.expr_sem.specs.Calls.{called}
-use Rattle.expr_sem.specs.Coded.{Coded}
-use Rattle.expr_sem.specs.Expressions.{call_alone, continued, count_of_exprs, designated, element, elements, expression, followed, form_coded, indexed, looked_at, passed, selected, selector, standard, value}
-use Rattle.expr_sem.specs.Elements.{select_element}
-use Rattle.expr_sem.specs.RecordFields.{name_coded}
-use Rattle.expr_sem.specs.SetElements.{Elements, element_coded, no_elements_yet}
-use Rattle.expr_sem.specs.StandardProcedures.{first_of_two}
-use Rattle.expr_sem.specs.Values.{as_value}
+use Rattle.block_code.specs.Calls.{called}
+use Rattle.block_code.specs.Coded.{Coded}
+use Rattle.block_code.specs.Expressions.{call_alone, continued, count_of_exprs, designated, element, elements, expression, followed, form_coded, indexed, looked_at, passed, selected, selector, standard, value}
+use Rattle.block_code.specs.Elements.{select_element}
+use Rattle.block_code.specs.RecordFields.{name_coded}
+use Rattle.block_code.specs.SetElements.{Elements, element_coded, no_elements_yet}
+use Rattle.block_code.specs.StandardProcedures.{first_of_two}
+use Rattle.block_code.specs.Values.{as_value}
 use Rattle.block_laws.proofs.StandingCalls.{argument_at, call_at, called_at}
 use Rattle.block_laws.proofs.StandingOperands.{as_value_at, element_coded_at, field_at, name_at, one_coded_at, selected_at, target_at, two_coded_at}
 use Rattle.block_laws.proofs.StandingProcedures.{first_of_two_at, one_argument_at, two_arguments_at}

@@ -4,9 +4,9 @@ use Rattle.std.proofs.Common.{arith}
 use Rattle.code_form.specs.Heights.{Step}
 use Rattle.code_form.specs.declared.instr.Instr.{Instr}
 use Rattle.code_form.specs.declared.instr.Instr.TheVariants.{Jump, JumpFalse, Load, Local, Move, OpenCopy, Trap}
-use Rattle.expr_sem.specs.Coded.{Coded}
-use Rattle.expr_sem.specs.Expressions.{call_alone, designated}
-use Rattle.expr_sem.specs.Parts.{Part, plain, plain_step}
+use Rattle.block_code.specs.Coded.{Coded}
+use Rattle.block_code.specs.Expressions.{call_alone, designated}
+use Rattle.block_code.specs.Parts.{Part, plain, plain_step}
 use Rattle.m2_base.proofs.SoundTypes.{either}
 use Rattle.m2_base.specs.Gives.{Gives, gives}
 use Rattle.m2_base.specs.Lists.{Each, WhereKept}
@@ -23,14 +23,14 @@ use Rattle.m2_base.specs.Statics.ProcedureRows.{result_cells}
 use Rattle.m2_base.specs.Statics.Ranges.{Range}
 use Rattle.m2_base.specs.Statics.ReadTrees.{IsReadDesignator, IsReadExpr}
 use Rattle.m2_base.specs.Trees.{CaseArm, CaseArms, CaseElse, Designator, Expr, Heading, IfArm, IfArms, Statement, Statements, StmtForm, assign_form, call_statement, case_arm, case_else, case_form, designator_at, empty_form, exit_form, expr_at, for_form, if_arm, if_form, loop_form, more_case_arms, more_if_arms, more_statements, no_case_arms, no_case_else, no_if_arms, no_statements, repeat_form, return_form, statement, while_form, with_form}
-use Rattle.stmt_sem.specs.Assignments.{assignment, code_unless_bad}
-use Rattle.stmt_sem.specs.BlockCode.{copy_code, ending, first_spot, prologue, run_of, stand_of}
-use Rattle.stmt_sem.specs.Cases.{labels_code, no_case, selector_code, selector_type}
-use Rattle.stmt_sem.specs.Counting.{bound_value, control_variable, for_first, for_last, for_more, for_step, for_test, has_code, or_one}
-use Rattle.stmt_sem.specs.Flows.{Flow, counted, exit, in_with, nothing, straight, with_cell, ◌⨾◌}
-use Rattle.stmt_sem.specs.Returns.{return_code}
-use Rattle.stmt_sem.specs.Statements.{Arm, Stand, arm_before, arm_flow, arms_flow, by_of, case_flow, cases_flow, else_flow, else_of, flow_of, flow_or_nothing, for_flow, form_flow, in_loop, return_of, statement_flow, test, value_at, variable, within}
-use Rattle.stmt_sem.specs.Withs.{in_with_of, record_variable, with_code}
+use Rattle.block_code.specs.Assignments.{assignment, code_unless_bad}
+use Rattle.block_code.specs.BlockCode.{copy_code, ending, first_spot, prologue, run_of, stand_of}
+use Rattle.block_code.specs.Cases.{labels_code, no_case, selector_code, selector_type}
+use Rattle.block_code.specs.Counting.{bound_value, control_variable, for_first, for_last, for_more, for_step, for_test, has_code, or_one}
+use Rattle.block_code.specs.Flows.{Flow, counted, exit, in_with, nothing, straight, with_cell, ◌⨾◌}
+use Rattle.block_code.specs.Returns.{return_code}
+use Rattle.block_code.specs.Statements.{Arm, Stand, arm_before, arm_flow, arms_flow, by_of, case_flow, cases_flow, else_flow, else_of, flow_of, flow_or_nothing, for_flow, form_flow, in_loop, return_of, statement_flow, test, value_at, variable, within}
+use Rattle.block_code.specs.Withs.{in_with_of, record_variable, with_code}
 use Rattle.m2_base.specs.Statics.ReadStatements.{AreReadCaseArms, AreReadIfArms, AreReadStatements, IsReadCaseArm, IsReadCaseElse, IsReadIfArm, IsReadExprOption, IsReadStatement, IsReadStmtForm}
 use Rattle.block_laws.proofs.Constants.{constant-ok, labels-tests}
 use Rattle.block_laws.proofs.Parts.{IsKept, IsSpot, Leads, Right, none-right, steps-if, then-right}

@@ -5,7 +5,7 @@ use Rattle.std.proofs.lemmas.Bool.{cases_order, le-ltb, lt-ltb}
 use Rattle.std.proofs.lemmas.Option.{get_or_from_slice_get, slice_get_cases, slice_get_within}
 use Rattle.code_form.specs.Modules.{Import, World}
 use Rattle.code_form.specs.Valid.{import_of}
-use Rattle.expr_sem.specs.ProcedureNames.{import_number_beside}
+use Rattle.block_code.specs.ProcedureNames.{import_number_beside}
 use Rattle.m2_base.proofs.EachLaws.{each_then}
 use Rattle.m2_base.specs.Lists.{Each, IsIn, WhereKept}
 use Rattle.m2_base.specs.Rows.{row_meaning}
@@ -31,8 +31,8 @@ use Rattle.row_laws.proofs.Units.{unit_cells, unit_declared, unit_in_range, unit
 use Rattle.row_laws.specs.Procedures.{IsDeclared, IsSeenAs, ProceduresAreDeclared}
 use Rattle.row_laws.specs.RowRanges.{BlockInRange, CellsAreThere, EachBlock, IsBelow, IsSoundUnit, OwnCellsAreThere}
 use Rattle.row_laws.specs.UnitBlocks.{HasItsBlocks, HasItsForm}
-use Rattle.stmt_sem.specs.BlockCode.{block_code, block_diags, body_of, first_cell, run_of, size_diags}
-use Rattle.stmt_sem.specs.Flows.{Run}
+use Rattle.block_code.specs.BlockCode.{block_code, block_diags, body_of, first_cell, run_of, size_diags}
+use Rattle.block_code.specs.Flows.{Run}
 use Rattle.block_laws.specs.Named.{HasCode, procedure_of}
 use Rattle.m2_base.specs.Statics.ReadStatements.{AreReadStatements}
 use Rattle.block_laws.specs.Worlds.{callee_of, import_over, of_blocks, unit_world, without_own}

@@ -10,9 +10,9 @@ use Rattle.m2_base.specs.Statics.UnitRows.{unit_rows}
 use Rattle.m2_base.specs.Trees.{Stream}
 use Rattle.row_laws.proofs.Units.{unit_cells, unit_declared, unit_in_range, each_block_with}
 use Rattle.row_laws.specs.RowRanges.{BlockInRange, EachBlock, IsSoundUnit}
-use Rattle.stmt_sem.specs.BlockCode.{block_code, block_diags}
-use Rattle.stmt_sem.specs.Places.{OthersInRange, block_steps}
-use Rattle.stmt_sem.specs.Tokens.{block_tokens}
+use Rattle.block_code.specs.BlockCode.{block_code, block_diags}
+use Rattle.block_code.specs.Places.{OthersInRange, block_steps}
+use Rattle.block_code.specs.StatementTokens.{block_tokens}
 use Rattle.block_laws.specs.Lone.{IsLoneTree, lone_unit, lone_world}
 use Rattle.block_laws.specs.Named.{procedure_of}
 use Rattle.m2_base.specs.Statics.ReadStatements.{AreReadStatements}

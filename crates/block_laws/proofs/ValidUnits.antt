@@ -4,7 +4,7 @@ use Rattle.std.proofs.Common.{ap, subst, sym, inl, inr, arith}
 use Rattle.std.proofs.lemmas.Bool.{cases_order}
 use Rattle.code_form.specs.Modules.{Procedure}
 use Rattle.code_form.specs.Valid.{IsValidCode, names_what_is_there}
-use Rattle.expr_sem.specs.Variables.{cell_instr}
+use Rattle.block_code.specs.Variables.{cell_instr}
 use Rattle.m2_base.specs.Lists.{Each, IsIn}
 use Rattle.m2_base.specs.Statics.Blocks.{BlockTree, UnitTrees, blocks_of, home_of}
 use Rattle.m2_base.specs.Statics.Cells.{most_cells}
@@ -22,8 +22,8 @@ use Rattle.m2_base.specs.declared.rows.RowMeaning.{RowMeaning}
 use Rattle.m2_base.specs.declared.trees.declarations.StreamKind.{StreamKind}
 use Rattle.row_laws.proofs.Whole.{whole-rows}
 use Rattle.row_laws.specs.RowRanges.{IsBelow, IsCopyBelow}
-use Rattle.stmt_sem.specs.BlockCode.{block_code, first_cell}
-use Rattle.stmt_sem.specs.Tokens.{block_tokens}
+use Rattle.block_code.specs.BlockCode.{block_code, first_cell}
+use Rattle.block_code.specs.StatementTokens.{block_tokens}
 use Rattle.block_laws.specs.Named.{BlockNamesThere, procedure_of}
 use Rattle.block_laws.specs.Sight.{IsDeclared, IsInSight, RowsNameThere, Sees}
 use Rattle.m2_base.specs.Statics.ReadStatements.{AreReadStatements}

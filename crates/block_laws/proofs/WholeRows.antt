@@ -3,8 +3,8 @@ use Rattle.std.specs.Prelude.{◌≡◌, refl, ℕ, ◌<◌, ◌≤◌, ◌⊎�
 use Rattle.std.specs.Option.{IsSome}
 use Rattle.std.proofs.Common.{ap, subst, sym, ◌∙◌, inl, inr, arith}
 use Rattle.std.proofs.lemmas.Bool.{cases_order}
-use Rattle.expr_sem.specs.ProcedureNames.{is_own_definition, target, target_by, target_of_entry, target_of_procedure}
-use Rattle.expr_sem.specs.Whole.{AreWhole, HasWholeParts, IsNoAlias, IsWholeName, IsWholeRow, IsWholeType}
+use Rattle.block_code.specs.ProcedureNames.{is_own_definition, target, target_by, target_of_entry, target_of_procedure}
+use Rattle.block_code.specs.Whole.{AreWhole, HasWholeParts, IsNoAlias, IsWholeName, IsWholeRow, IsWholeType}
 use Rattle.m2_base.specs.Finished.{AreRead}
 use Rattle.m2_base.specs.Lists.{Each, IsIn, WhereKept}
 use Rattle.m2_base.specs.Rows.{row_meaning}
@@ -35,7 +35,7 @@ use Rattle.row_laws.proofs.Members.{each_in, each_at}
 use Rattle.row_laws.proofs.TextBlocks.{blocks_read}
 use Rattle.row_laws.proofs.Units.{each_block_then, unit_whole}
 use Rattle.row_laws.proofs.Whole.{whole-above, whole-rows}
-use Rattle.stmt_sem.specs.BlockCode.{block_diags}
+use Rattle.block_code.specs.BlockCode.{block_diags}
 use Rattle.block_laws.specs.Lone.{IsOfLone}
 use Rattle.block_laws.proofs.BlocksAt.{unit_all, unit_each, unit_made}
 use Rattle.block_laws.proofs.CodeIsValid.{declared-none}

@@ -7,9 +7,9 @@ use Rattle.code_form.specs.Modules.{Procedure, World}
 use Rattle.code_form.specs.Valid.{callees_of, has_heading, linked, names_what_is_there}
 use Rattle.code_form.specs.declared.instr.Instr.TheVariants.{Call, CallX, Proc as ProcValue}
 use Rattle.code_form.specs.declared.instr.Instr.{Instr}
-use Rattle.expr_sem.specs.Calls.{call_instr, cells_of_all, links_to, result_cells}
-use Rattle.expr_sem.specs.ProcedureNames.{Target, import_number, import_number_beside, import_of_target, is_foreign, is_own, is_own_definition, target, target_by, target_of_entry, target_of_procedure}
-use Rattle.expr_sem.specs.Variables.{links_out}
+use Rattle.block_code.specs.Calls.{call_instr, cells_of_all, links_to, result_cells}
+use Rattle.block_code.specs.ProcedureNames.{Target, import_number, import_number_beside, import_of_target, is_foreign, is_own, is_own_definition, target, target_by, target_of_entry, target_of_procedure}
+use Rattle.block_code.specs.Variables.{links_out}
 use Rattle.m2_base.proofs.ChainLaws.{chains_down}
 use Rattle.m2_base.proofs.NoRepeats.{some_is}
 use Rattle.m2_base.specs.Lists.{Each, IsIn, WhereKept}

@@ -5,8 +5,8 @@ use Rattle.std.proofs.lemmas.Bool.{eq-eqb, eqb-true, eqb-false, lt-ltb}
 use Rattle.code_form.specs.Modules.{Import, Procedure, World}
 use Rattle.code_form.specs.Valid.{has_cell, has_local, import_of, names_what_is_there, when_there}
 use Rattle.code_form.specs.declared.instr.Instr.TheVariants.{Global, Local}
-use Rattle.expr_sem.specs.ProcedureNames.{import_number, import_number_beside, is_own, is_own_definition}
-use Rattle.expr_sem.specs.Variables.{cell_instr, links_out}
+use Rattle.block_code.specs.ProcedureNames.{import_number, import_number_beside, is_own, is_own_definition}
+use Rattle.block_code.specs.Variables.{cell_instr, links_out}
 use Rattle.m2_base.specs.Lists.{Each, IsIn}
 use Rattle.m2_base.specs.Rows.{row_meaning}
 use Rattle.m2_base.specs.Standard.{standard_rows}

@@ -8,7 +8,7 @@ use Rattle.m2_base.specs.Statics.Cells.{most_cells}
 use Rattle.m2_base.specs.Statics.Closing.{block_name}
 use Rattle.m2_base.specs.Statics.Contexts.{Source}
 use Rattle.m2_base.specs.declared.trees.Ident.{Ident}
-use Rattle.stmt_sem.specs.BlockCode.{first_cell}
+use Rattle.block_code.specs.BlockCode.{first_cell}
 use Rattle.row_laws.specs.RowRanges.{IsCopyBelow}
 use Rattle.block_laws.specs.Named.{HasCode}
 

@@ -12,7 +12,7 @@ use Rattle.m2_base.specs.Statics.UnitNotes.{complete_context}
 use Rattle.m2_base.specs.declared.trees.Ident.{Ident}
 use Rattle.m2_base.specs.declared.trees.declarations.StreamKind.{StreamKind}
 use Rattle.m2_base.specs.declared.trees.declarations.StreamKind.TheVariants.{Definition}
-use Rattle.stmt_sem.specs.BlockCode.{ProcedureCode, block_code, first_cell}
+use Rattle.block_code.specs.BlockCode.{ProcedureCode, block_code, first_cell}
 use Rattle.row_laws.specs.RowRanges.{IsCopyBelow}
 use Rattle.block_laws.specs.Sight.{RowsNameThere}
 

@@ -8,7 +8,7 @@ use Rattle.m2_base.specs.Statics.UnitNotes.{complete_context}
 use Rattle.m2_base.specs.Statics.UnitRows.{unit_rows}
 use Rattle.m2_base.specs.Trees.{Heading}
 use Rattle.m2_base.specs.declared.rows.Row.{Row}
-use Rattle.stmt_sem.specs.BlockCode.{result_by}
+use Rattle.block_code.specs.BlockCode.{result_by}
 
 -- what the heading of a procedure's block gives as its result is that of its statements
 abbrev pub ReturnsItsResult : UnitTrees → (before : List (List Row)) → BlockTree → Type 0

@@ -17,9 +17,9 @@ use Rattle.m2_base.specs.declared.rows.RowMeaning.{RowMeaning}
 use Rattle.m2_base.specs.Statics.Contexts.{Block, Scene, level_of}
 use Rattle.m2_base.specs.Statics.TypeParts.{parameters, result_of_type}
 use Rattle.m2_base.specs.Tables.{rows_at}
-use Rattle.expr_sem.specs.Calls.{call_instr, cells_of_all, result_cells}
-use Rattle.expr_sem.specs.ProcedureNames.{Target, import_of_target, target_of_procedure}
-use Rattle.expr_sem.specs.Variables.{cell_instr}
+use Rattle.block_code.specs.Calls.{call_instr, cells_of_all, result_cells}
+use Rattle.block_code.specs.ProcedureNames.{Target, import_of_target, target_of_procedure}
+use Rattle.block_code.specs.Variables.{cell_instr}
 
 -- a row of this name and meaning is in a scope that is seen
 pub record IsDeclared (seen : ℕ → Type 0) (scene : Scene) (name : ℕ) (m : RowMeaning) : Type 0 where

@@ -11,7 +11,7 @@ use Rattle.m2_base.specs.Statics.UnitRows.{unit_rows}
 use Rattle.m2_base.specs.declared.outputs.HeadingNote.{HeadingNote}
 use Rattle.m2_base.specs.declared.rows.Row.{Row}
 use Rattle.m2_base.specs.declared.trees.Ident.{Ident}
-use Rattle.stmt_sem.specs.BlockCode.{block_code}
+use Rattle.block_code.specs.BlockCode.{block_code}
 use Rattle.block_laws.specs.Named.{procedure_of}
 
 -- what f makes of each of these blocks, over the finished scopes before it

@@ -16,8 +16,8 @@ ghost use Rattle.m2_base.specs.Tables.{rows_at};
 ghost use Rattle.m2_base.specs.Trees.{Statements};
 ghost use Rattle.m2_base.specs.declared.notes.Diag.{Diag};
 ghost use Rattle.m2_base.specs.declared.rows.Row.{Row};
-ghost use Rattle.stmt_sem.specs.BlockCode.{block_diags};
-ghost use Rattle.stmt_sem.specs.Statements.{Stand, flow_of};
+ghost use Rattle.block_code.specs.BlockCode.{block_diags};
+ghost use Rattle.block_code.specs.Statements.{Stand, flow_of};
 
 /// Each diagnostic of statements stands at a token of the text, whatever is declared and wherever the statements
 /// stand, where their trees name no others: so it is with the trees that the tokens spell.

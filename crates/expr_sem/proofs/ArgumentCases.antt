@@ -21,13 +21,13 @@ use Rattle.m2_base.specs.declared.rows.RowMeaning.TheVariants.{Array, OpenArray}
 use Rattle.m2_base.specs.declared.sites.Site.{Site}
 use Rattle.code_form.specs.declared.instr.Instr.TheVariants.{Push}
 use Rattle.expr_sem.specs.ArgumentCodes.{IsArgument, argument_in}
-use Rattle.expr_sem.specs.Arguments.{address_by, alike, array_argument, by_address, by_mode, by_value, checked_mode, is_variable, open_argument, open_element, string_argument, value_argument_by}
-use Rattle.expr_sem.specs.Coded.{Coded, characters}
+use Rattle.block_code.specs.Arguments.{address_by, alike, array_argument, by_address, by_mode, by_value, checked_mode, is_variable, open_argument, open_element, string_argument, value_argument_by}
+use Rattle.block_code.specs.Coded.{Coded, characters}
 use Rattle.expr_sem.specs.Codings.{Coding, IsFragment}
-use Rattle.expr_sem.specs.Fitting.{fitted_code}
+use Rattle.block_code.specs.Fitting.{fitted_code}
 use Rattle.expr_sem.specs.Fragments.{part}
-use Rattle.expr_sem.specs.Parts.{Part, plain, text, ◌⨟◌}
-use Rattle.expr_sem.specs.StandardFunctions.{high_code}
+use Rattle.block_code.specs.Parts.{Part, plain, text, ◌⨟◌}
+use Rattle.block_code.specs.StandardFunctions.{high_code}
 use Rattle.expr_sem.specs.declared.fragments.Fragment.{Fragment}
 use Rattle.expr_sem.specs.declared.fragments.Node.{Node}
 use Rattle.expr_sem.proofs.Operating.{value_alone}

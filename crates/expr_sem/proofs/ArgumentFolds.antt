@@ -7,10 +7,10 @@ use Rattle.m2_base.specs.Trees.{Expr, expr_at, exprs}
 use Rattle.m2_base.specs.declared.rows.Place.{Place}
 use Rattle.const_eval.proofs.Analysing.{and_then_assoc}
 use Rattle.const_eval.proofs.Folding.{and_then_gives, and_then_same, folded}
-use Rattle.expr_sem.specs.Arguments.{after_argument, argument}
+use Rattle.block_code.specs.Arguments.{after_argument, argument}
 use Rattle.expr_sem.specs.ExpressionParts.{all_passed, behind_first, next_passed}
-use Rattle.expr_sem.specs.Expressions.{count_of_exprs, expression, passed}
-use Rattle.expr_sem.specs.Parts.{Part, none, ◌⨟◌}
+use Rattle.block_code.specs.Expressions.{count_of_exprs, expression, passed}
+use Rattle.block_code.specs.Parts.{Part, none, ◌⨟◌}
 
 -- ** Parts in a row
 

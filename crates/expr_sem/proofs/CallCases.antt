@@ -28,11 +28,11 @@ use Rattle.type_rules.specs.declared.forms.Formal.{Formal}
 use Rattle.type_rules.proofs.Compatibles.{told_later}
 use Rattle.expr_sem.specs.ArgumentCodes.{parameter_view}
 use Rattle.expr_sem.specs.Callees.{allowed_by, target_called, variable_allowed}
-use Rattle.expr_sem.specs.Calls.{Called, allowed, allowed_by_type, called_by, cells_of_all, is_same_truth, no_call, of_target, of_variable, standard_call}
-use Rattle.expr_sem.specs.Parts.{Part}
-use Rattle.expr_sem.specs.ProcedureNames.{Target}
+use Rattle.block_code.specs.Calls.{Called, allowed, allowed_by_type, called_by, cells_of_all, is_same_truth, no_call, of_target, of_variable, standard_call}
+use Rattle.block_code.specs.Parts.{Part}
+use Rattle.block_code.specs.ProcedureNames.{Target}
 use Rattle.expr_sem.specs.Signatures.{IsSignatureBy, IsSignatureOf}
-use Rattle.expr_sem.specs.StandardProcedures.{is_function, takes_count}
+use Rattle.block_code.specs.StandardProcedures.{is_function, takes_count}
 use Rattle.expr_sem.specs.declared.arguments.Parameter.{Parameter}
 use Rattle.expr_sem.specs.declared.signatures.Signature.{Signature}
 

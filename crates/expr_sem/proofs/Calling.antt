@@ -16,15 +16,15 @@ use Rattle.m2_base.specs.declared.rows.Place.{Place}
 use Rattle.m2_base.specs.declared.sites.Site.{Site}
 use Rattle.type_rules.specs.Scenes.{IsThere}
 use Rattle.expr_sem.specs.ArgumentCodes.{IsArgument, argument_in, parameter_view}
-use Rattle.expr_sem.specs.Arguments.{after_argument, argument}
+use Rattle.block_code.specs.Arguments.{after_argument, argument}
 use Rattle.expr_sem.specs.Callees.{IsCallee}
-use Rattle.expr_sem.specs.Coded as code
-use Rattle.expr_sem.specs.Coded.{in_error}
+use Rattle.block_code.specs.Coded as code
+use Rattle.block_code.specs.Coded.{in_error}
 use Rattle.expr_sem.specs.Codings.{Coding, IsCoded, coded_in}
 use Rattle.expr_sem.specs.ExpressionParts.{behind_first, next_passed}
-use Rattle.expr_sem.specs.Expressions.{expression}
+use Rattle.block_code.specs.Expressions.{expression}
 use Rattle.expr_sem.specs.Fragments.{Grows}
-use Rattle.expr_sem.specs.Parts.{Part}
+use Rattle.block_code.specs.Parts.{Part}
 use Rattle.expr_sem.specs.declared.arguments.Parameter.{Parameter}
 use Rattle.expr_sem.specs.declared.calls.Callee.{Callee}
 use Rattle.expr_sem.specs.declared.coded.Coded.{Coded}

@@ -21,13 +21,13 @@ use Rattle.type_rules.specs.Sites.{SuitsSite, context_of}
 use Rattle.const_eval.specs.Sites.{IsOperand}
 use Rattle.const_eval.proofs.RefusedSteps.{BrokenIsThere, QuietOr, broken-told, quiet, wrong}
 use Rattle.expr_sem.proofs.RefusedValues.{Erred}
-use Rattle.expr_sem.specs.Coded as code
+use Rattle.block_code.specs.Coded as code
 use Rattle.expr_sem.specs.Codings.{Coding}
 use Rattle.expr_sem.specs.Evaluations.{Evaluates, IsEvaluated, KeepsPiece, evaluated, evaluated_in, evaluation, operand_of, unless_in_error}
 use Rattle.expr_sem.specs.Fragments.{AreSound, Grows, part}
-use Rattle.expr_sem.specs.Parts.{Part}
+use Rattle.block_code.specs.Parts.{Part}
 use Rattle.expr_sem.specs.Pieces.{Appended, IsAsBefore}
-use Rattle.expr_sem.specs.Whole.{AreWhole}
+use Rattle.block_code.specs.Whole.{AreWhole}
 use Rattle.expr_sem.specs.declared.fragments.Fragment.{Fragment}
 use Rattle.expr_sem.specs.declared.fragments.Node.{Node}
 use Rattle.expr_sem.specs.declared.pieces.Piece.{Piece}

@@ -6,12 +6,12 @@ use Rattle.m2_base.specs.Trees.{Expr, Exprs, Label, Next, Selector, expr_at, exp
 use Rattle.m2_base.specs.declared.rows.Place.{Place}
 use Rattle.const_eval.proofs.Analysing.{and_then_assoc}
 use Rattle.const_eval.proofs.Folding.{and_then_same, folded}
-use Rattle.expr_sem.specs.Coded.{Coded, in_error}
-use Rattle.expr_sem.specs.Elements.{select_element}
+use Rattle.block_code.specs.Coded.{Coded, in_error}
+use Rattle.block_code.specs.Elements.{select_element}
 use Rattle.expr_sem.specs.ExpressionParts.{index}
-use Rattle.expr_sem.specs.Expressions.{continued, element, elements, expression, followed, indexed, looked_at, selected, selector, value}
-use Rattle.expr_sem.specs.SetElements.{Elements}
-use Rattle.expr_sem.specs.Values.{as_value}
+use Rattle.block_code.specs.Expressions.{continued, element, elements, expression, followed, indexed, looked_at, selected, selector, value}
+use Rattle.block_code.specs.SetElements.{Elements}
+use Rattle.block_code.specs.Values.{as_value}
 
 indices_step : (c : Context) (withs : List Place) (first at : ℕ) (x : Coded) (e : Expr) (es : Exprs) → and_then (index c withs first at x e) (λ y. indexed c withs first at y es) ≡ indexed c withs first at x (more_exprs e es)
 indices_step c withs first at x e es =

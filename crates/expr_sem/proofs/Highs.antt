@@ -14,9 +14,9 @@ use Rattle.m2_base.specs.declared.rows.Place.{Place}
 use Rattle.m2_base.specs.declared.rows.RowMeaning.{RowMeaning}
 use Rattle.m2_base.specs.declared.rows.RowMeaning.TheVariants.{Array, OpenArray}
 use Rattle.type_rules.specs.Scenes.{IsThere}
-use Rattle.expr_sem.specs.Coded.{Coded, coded, in_error}
+use Rattle.block_code.specs.Coded.{Coded, coded, in_error}
 use Rattle.expr_sem.specs.Kinds.{IsKindHere}
-use Rattle.expr_sem.specs.StandardFunctions.{as_variable_by, function_of_one, high_code, high_of}
+use Rattle.block_code.specs.StandardFunctions.{as_variable_by, function_of_one, high_code, high_of}
 
 -- the index type of an array can be asked for
 pub index_there : {f : Frame} (m : RowMeaning) (i t : Place) (s : ℕ) → m ≡ Array i t s → IsKindHere f m → IsThere f i

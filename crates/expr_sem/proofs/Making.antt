@@ -20,7 +20,7 @@ use Rattle.type_rules.proofs.Reading.{Reads-refl}
 use Rattle.expr_sem.specs.Codings.{Coding, IsFragment}
 use Rattle.expr_sem.specs.Fragments.{IsIn, IsMade, part}
 use Rattle.expr_sem.specs.MadeAnswers.{answer_of}
-use Rattle.expr_sem.specs.Parts.{Part}
+use Rattle.block_code.specs.Parts.{Part}
 use Rattle.expr_sem.specs.declared.fragments.Fragment.{Fragment}
 use Rattle.expr_sem.specs.declared.fragments.Node.{Node}
 use Rattle.expr_sem.proofs.Sequencing.{Grows-refl}

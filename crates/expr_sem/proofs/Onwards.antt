@@ -12,7 +12,7 @@ use Rattle.m2_base.specs.declared.sites.Site.{Site}
 use Rattle.type_rules.specs.Sites.{SuitsSite, context_of}
 use Rattle.expr_sem.specs.Codings.{Coding, IsCoded, IsFragment}
 use Rattle.expr_sem.specs.Fragments.{Grows, IsIn, IsMade, part}
-use Rattle.expr_sem.specs.Parts.{Part}
+use Rattle.block_code.specs.Parts.{Part}
 use Rattle.expr_sem.specs.declared.coded.Coded.{Coded}
 use Rattle.expr_sem.specs.declared.fragments.Fragment.{Fragment}
 use Rattle.expr_sem.specs.declared.fragments.Node.{Node}

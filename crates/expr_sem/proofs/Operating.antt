@@ -20,7 +20,7 @@ use Rattle.const_eval.specs.Analyses.{Analysed}
 use Rattle.const_eval.specs.Sites.{IsOperand}
 use Rattle.expr_sem.specs.Codings.{Coding, IsCoded, IsFragment, coded_in, high_in}
 use Rattle.expr_sem.specs.Fragments.{Grows, IsIn, IsMade, part}
-use Rattle.expr_sem.specs.Parts.{Part}
+use Rattle.block_code.specs.Parts.{Part}
 use Rattle.expr_sem.specs.declared.coded.Coded.{Coded}
 use Rattle.expr_sem.specs.declared.fragments.Fragment.{Fragment}
 use Rattle.expr_sem.specs.declared.fragments.Node.{Node}

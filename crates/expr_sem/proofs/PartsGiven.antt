@@ -12,12 +12,12 @@ use Rattle.m2_base.specs.declared.trees.operators.Operator.{Operator}
 use Rattle.m2_base.proofs.Seen.{expr_seen}
 use Rattle.const_eval.proofs.Analysing.{and_then_assoc}
 use Rattle.const_eval.proofs.Folding.{and_then_same}
-use Rattle.expr_sem.specs.Coded.{Coded}
+use Rattle.block_code.specs.Coded.{Coded}
 use Rattle.expr_sem.specs.ExpressionParts.{member, range_to, set_of, type_before}
-use Rattle.expr_sem.specs.Expressions.{continued, designated, element, expression, followed, form_coded, value}
-use Rattle.expr_sem.specs.Operators.{one_coded, two_coded}
-use Rattle.expr_sem.specs.SetElements.{Elements, add_element, add_range, element_coded}
-use Rattle.expr_sem.specs.Values.{as_value}
+use Rattle.block_code.specs.Expressions.{continued, designated, element, expression, followed, form_coded, value}
+use Rattle.block_code.specs.Operators.{one_coded, two_coded}
+use Rattle.block_code.specs.SetElements.{Elements, add_element, add_range, element_coded}
+use Rattle.block_code.specs.Values.{as_value}
 
 module _ (c : Context) (withs : List Place) where
   pub form_given : (e : expressions.Expr.Expr) (form : expressions.ExprForm.ExprForm) (t : plain.ExprForm) → e.form ≡ form → form_view form ≡ t → form_coded c withs t ≡ expression c withs (expr_view e)

@@ -6,9 +6,9 @@ use Rattle.m2_base.specs.declared.memory.Memory.{Memory}
 use Rattle.m2_base.specs.Statics.Cells.{capped}
 use Rattle.m2_base.proofs.Kept.{IsPrefixOf-refl, IsPrefixOf-trans}
 use Rattle.code_form.specs.Heights.{Step}
-use Rattle.expr_sem.specs.Arguments.{string_copy}
+use Rattle.block_code.specs.Arguments.{string_copy}
 use Rattle.expr_sem.specs.Fragments.{IsBefore, jump_of, part, part_by, parts_after, step_view}
-use Rattle.expr_sem.specs.Parts.{Made, Part, Spot, none, plain, steps, steps_size, text, unless_too_many, ◌⨟◌}
+use Rattle.block_code.specs.Parts.{Made, Part, Spot, none, plain, steps, steps_size, text, unless_too_many, ◌⨟◌}
 use Rattle.expr_sem.specs.Pieces.{Appended, Begins, extend, spot_of}
 use Rattle.expr_sem.specs.Stacks.{Visited, behind, ends_as, remaining, stack_weight, three_to, weight}
 use Rattle.code_form.specs.declared.instr.Instr.TheVariants.{Local, Move, Str}

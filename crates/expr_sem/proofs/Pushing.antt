@@ -4,7 +4,7 @@ use Rattle.std.specs.Prelude.{get_or, slice_get, slice_index_or}
 use Rattle.std.proofs.lemmas.List.{get_or_push}
 use Rattle.code_form.specs.Heights.{Step}
 use Rattle.expr_sem.specs.Fragments.{AreSound, IsMade, IsMadeOf, IsSound, part, part_by, parts_after}
-use Rattle.expr_sem.specs.Parts.{Part, Spot, none, steps_size, ◌⨟◌}
+use Rattle.block_code.specs.Parts.{Part, Spot, none, steps_size, ◌⨟◌}
 use Rattle.expr_sem.specs.declared.fragments.Fragment.TheVariants.{Node as NodeOf}
 use Rattle.expr_sem.specs.declared.fragments.Node.{Node}
 use Rattle.expr_sem.proofs.Sequencing.{parts_append, parts_length, part_before}
@@ -69,18 +69,6 @@ made_pushed ns n earlier sized =
     behind : (ns : List Node) (n : Node) → length ns < length (ns ++ n ∷ [])
     behind [] n = omega arith
     behind (x ∷ xs) n = let h = behind xs n in omega (arith, h)
-
--- the length of code one after another
-pub size_append : (xs ys : List Step) → steps_size (xs ++ ys) ≡ steps_size xs + steps_size ys
-size_append [] ys = omega arith
-size_append (x ∷ xs) ys = let e = size_append xs ys in omega (arith, e)
-
-pub size_then : (p q : Part) (a b : ℕ) → ((at : Spot) → steps_size (p at).code ≡ a) → ((at : Spot) → steps_size (q at).code ≡ b) → (at : Spot) → steps_size ((p ⨟ q) at).code ≡ a + b
-size_then p q a b h k at =
-    let e = h at in
-    let f = k (p at).next in
-    let g = size_append (p at).code (q (p at).next).code in
-    omega (arith, e, f, g)
 
 pub there_at : (ns : List Node) (k : ℕ) (n : Node) → k < length ns → n ≡ get_or ns k n → slice_get ns k ≡ Some n
 there_at [] k n h e = absurd (omega (arith, h))

@@ -16,12 +16,12 @@ use Rattle.m2_base.specs.declared.rows.RowMeaning.{RowMeaning}
 use Rattle.code_form.specs.declared.instr.Instr.{Instr}
 use Rattle.const_eval.proofs.RefusedSteps.{IsMissing, QuietOr, of-error, quiet, quiet-if, quiet-then, tests, wrong}
 use Rattle.expr_sem.proofs.RefusedValues.{Erred, QuietCoded, as_value-error, as_value-quiet, assigned-quiet, of-erred}
-use Rattle.expr_sem.specs.Arguments.{address_by, after_argument, alike, argument, array_argument, by_address, by_mode, by_value, checked_mode, open_argument, string_argument, value_argument, value_argument_by}
-use Rattle.expr_sem.specs.Calls.{Called, allowed, call_coded, called, called_by, lacking_call, no_call, procedure_call, standard_call}
-use Rattle.expr_sem.specs.Coded.{Coded, in_error}
-use Rattle.expr_sem.specs.Expressions.{by_called}
-use Rattle.expr_sem.specs.Parts.{Part}
-use Rattle.expr_sem.specs.Values.{as_value, assigned_to}
+use Rattle.block_code.specs.Arguments.{address_by, after_argument, alike, argument, array_argument, by_address, by_mode, by_value, checked_mode, open_argument, string_argument, value_argument, value_argument_by}
+use Rattle.block_code.specs.Calls.{Called, allowed, call_coded, called, called_by, lacking_call, no_call, procedure_call, standard_call}
+use Rattle.block_code.specs.Coded.{Coded, in_error}
+use Rattle.block_code.specs.Expressions.{by_called}
+use Rattle.block_code.specs.Parts.{Part}
+use Rattle.block_code.specs.Values.{as_value, assigned_to}
 
 -- nothing is called
 abbrev pub IsNoCall : Called → Type 0

@@ -15,18 +15,18 @@ use Rattle.const_eval.proofs.RefusedOperands.{set_type-quiet}
 use Rattle.expr_sem.proofs.RefusedValues.{AreErred, Erred, QuietCoded, add_element-error, add_element-set, add_range-high, add_range-low, add_range-set, as_value-error, as_value-quiet, element-error, element-quiet, name-quiet, one-error, one-quiet, select_element-error, select_element-index, select_element-quiet, select_field-error, select_field-quiet, select_target-error, select_target-quiet, set-error, two-first, two-quiet, two-second}
 use Rattle.expr_sem.proofs.RefusedProcedures.{first-error, first-quiet, one_argument-error, one_argument-quiet, two_arguments-first, two_arguments-quiet, two_arguments-second}
 use Rattle.expr_sem.proofs.RefusedCalls.{IsNoCall, QuietPassed, after-first, after-second, argument-error, argument-quiet, by_called-none, by_called-quiet, called-error, called-quiet}
-use Rattle.expr_sem.specs.Arguments.{after_argument, argument}
-use Rattle.expr_sem.specs.Calls.{Called, called}
-use Rattle.expr_sem.specs.Coded.{Coded}
-use Rattle.expr_sem.specs.Elements.{select_element}
+use Rattle.block_code.specs.Arguments.{after_argument, argument}
+use Rattle.block_code.specs.Calls.{Called, called}
+use Rattle.block_code.specs.Coded.{Coded}
+use Rattle.block_code.specs.Elements.{select_element}
 use Rattle.expr_sem.specs.ExpressionParts.{called_as, called_with, set_of}
-use Rattle.expr_sem.specs.Expressions.{call_alone, continued, count_of_exprs, designated, element, elements, expression, followed, form_coded, indexed, looked_at, passed, selected, selector, standard, value}
-use Rattle.expr_sem.specs.Operators.{one_coded, two_coded}
-use Rattle.expr_sem.specs.Parts.{Part}
-use Rattle.expr_sem.specs.RecordFields.{name_coded}
-use Rattle.expr_sem.specs.SetElements.{Elements, add_element, add_range, element_coded, no_elements_yet, set_coded}
-use Rattle.expr_sem.specs.StandardProcedures.{first_of_two, of_one_argument, of_two_arguments}
-use Rattle.expr_sem.specs.Values.{as_value}
+use Rattle.block_code.specs.Expressions.{call_alone, continued, count_of_exprs, designated, element, elements, expression, followed, form_coded, indexed, looked_at, passed, selected, selector, standard, value}
+use Rattle.block_code.specs.Operators.{one_coded, two_coded}
+use Rattle.block_code.specs.Parts.{Part}
+use Rattle.block_code.specs.RecordFields.{name_coded}
+use Rattle.block_code.specs.SetElements.{Elements, add_element, add_range, element_coded, no_elements_yet, set_coded}
+use Rattle.block_code.specs.StandardProcedures.{first_of_two, of_one_argument, of_two_arguments}
+use Rattle.block_code.specs.Values.{as_value}
 
 module _ (c : Context) (h : BrokenIsThere c) (withs : List Place) where
   -- ---- what is made of an error is in error

@@ -19,13 +19,13 @@ use Rattle.m2_base.specs.declared.rows.RowMeaning.{RowMeaning}
 use Rattle.const_eval.proofs.RefusedSteps.{BrokenIsThere, IsError, QuietOr, of-error, of-second, quiet, quiet-if, quiet-then, tests, wrong}
 use Rattle.const_eval.proofs.RefusedOperands.{abs-quiet, cap-quiet, chr-quiet, max-error, max-quiet, min-error, min-quiet, odd-quiet, ord-quiet, size-quiet, val-error, val-quiet, val-untyped}
 use Rattle.expr_sem.proofs.RefusedValues.{Erred, QuietCoded, as_value-error, as_value-quiet, in_range-quiet, made-error, made-quiet, of-erred}
-use Rattle.expr_sem.specs.Coded.{Coded, bare, in_error}
-use Rattle.expr_sem.specs.Fitting.{fitted_code}
-use Rattle.expr_sem.specs.Operators.{made}
-use Rattle.expr_sem.specs.Parts.{Part}
-use Rattle.expr_sem.specs.StandardFunctions.{abs_code, as_variable, as_variable_by, cap_code, function_of_one, high_of, high_of_variable, named_type, odd_code, on_value, size_code, value_of_type}
-use Rattle.expr_sem.specs.StandardProcedures.{beside, disposed, element_of_base, first_of_two, included, is_pointer_type, new_room, number_of_type, of_one_argument, of_two_arguments, one, ordinal_variable, pointer_variable, set_member, set_variable, step_number, step_type, stepped, variable_argument, variable_where}
-use Rattle.expr_sem.specs.Values.{as_value}
+use Rattle.block_code.specs.Coded.{Coded, bare, in_error}
+use Rattle.block_code.specs.Fitting.{fitted_code}
+use Rattle.block_code.specs.Operators.{made}
+use Rattle.block_code.specs.Parts.{Part}
+use Rattle.block_code.specs.StandardFunctions.{abs_code, as_variable, as_variable_by, cap_code, function_of_one, high_of, high_of_variable, named_type, odd_code, on_value, size_code, value_of_type}
+use Rattle.block_code.specs.StandardProcedures.{beside, disposed, element_of_base, first_of_two, included, is_pointer_type, new_room, number_of_type, of_one_argument, of_two_arguments, one, ordinal_variable, pointer_variable, set_member, set_variable, step_number, step_type, stepped, variable_argument, variable_where}
+use Rattle.block_code.specs.Values.{as_value}
 
 module _ (c : Context) where
   -- ---- variables as arguments

@@ -24,15 +24,15 @@ use Rattle.m2_base.specs.declared.trees.Ident.{Ident}
 use Rattle.m2_base.specs.declared.trees.operators.Operator.{Operator}
 use Rattle.const_eval.proofs.RefusedSteps.{IsError, IsMissing, QuietOr, of-error, quiet, quiet-then, tests, wrong}
 use Rattle.const_eval.proofs.RefusedOperands.{apply-quiet, element_of-quiet, operate-quiet, operate-second, use-quiet, with_error-high, with_error-low}
-use Rattle.expr_sem.proofs.ValueHeights.{with_operand}
-use Rattle.expr_sem.specs.Coded.{Coded, value_code, with_char}
-use Rattle.expr_sem.specs.Elements.{element_of_array, element_of_open, of_array, of_pointer, select_element, select_element_by, select_target, select_target_by}
-use Rattle.expr_sem.specs.Operators.{made, one_coded, one_instr, operation_code, two_coded}
-use Rattle.expr_sem.specs.Parts.{Part, plain, ◌⨟◌}
-use Rattle.expr_sem.specs.RecordFields.{field_or_use, found_field, name_coded, of_record, select_field, select_field_by, with_field}
-use Rattle.expr_sem.specs.SetElements.{Elements, add_element, add_range, element_as, element_coded, set_by, set_coded}
-use Rattle.expr_sem.specs.Values.{as_value, as_value_by, assigned_to, in_range, in_range_by}
-use Rattle.expr_sem.specs.Variables.{entry_coded}
+use Rattle.block_code.proofs.ValueHeights.{with_operand}
+use Rattle.block_code.specs.Coded.{Coded, value_code, with_char}
+use Rattle.block_code.specs.Elements.{element_of_array, element_of_open, of_array, of_pointer, select_element, select_element_by, select_target, select_target_by}
+use Rattle.block_code.specs.Operators.{made, one_coded, one_instr, operation_code, two_coded}
+use Rattle.block_code.specs.Parts.{Part, plain, ◌⨟◌}
+use Rattle.block_code.specs.RecordFields.{field_or_use, found_field, name_coded, of_record, select_field, select_field_by, with_field}
+use Rattle.block_code.specs.SetElements.{Elements, add_element, add_range, element_as, element_coded, set_by, set_coded}
+use Rattle.block_code.specs.Values.{as_value, as_value_by, assigned_to, in_range, in_range_by}
+use Rattle.block_code.specs.Variables.{entry_coded}
 
 -- the operand is in error
 abbrev pub Erred : Coded → Type 0

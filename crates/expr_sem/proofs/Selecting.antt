@@ -28,15 +28,15 @@ use Rattle.m2_base.specs.declared.trees.Ident.{Ident}
 use Rattle.type_rules.specs.Asks.{Reads}
 use Rattle.code_form.specs.declared.instr.Instr.TheVariants.{Load, Nil}
 use Rattle.m2_base.proofs.Kept.{Works-refl}
-use Rattle.expr_sem.specs.Coded as code
-use Rattle.expr_sem.specs.Coded.{bare, coded, in_error}
+use Rattle.block_code.specs.Coded as code
+use Rattle.block_code.specs.Coded.{bare, coded, in_error}
 use Rattle.expr_sem.specs.Codings.{Coding, IsCoded, coded_in, high_in, with_types}
-use Rattle.expr_sem.specs.Elements.{of_array, of_pointer, select_element_by, select_target_by}
+use Rattle.block_code.specs.Elements.{of_array, of_pointer, select_element_by, select_target_by}
 use Rattle.expr_sem.specs.Fragments.{Grows, IsIn, IsMade}
-use Rattle.expr_sem.specs.Parts.{Part, plain, with_record, ◌⨟◌}
-use Rattle.expr_sem.specs.RecordFields.{field_by, field_coded, field_or, field_or_use, name_coded, with_field, no_selector, of_record, select_field_by}
+use Rattle.block_code.specs.Parts.{Part, plain, with_record, ◌⨟◌}
+use Rattle.block_code.specs.RecordFields.{field_by, field_coded, field_or, field_or_use, name_coded, with_field, no_selector, of_record, select_field_by}
 use Rattle.expr_sem.specs.Selections.{number_or, pointed, with_number}
-use Rattle.expr_sem.specs.Variables.{with_address}
+use Rattle.block_code.specs.Variables.{with_address}
 use Rattle.expr_sem.specs.declared.coded.Coded.{Coded}
 use Rattle.expr_sem.specs.declared.fragments.Fragment.{Fragment}
 use Rattle.expr_sem.specs.declared.fragments.Node.{Node}

@@ -5,7 +5,7 @@ use Rattle.std.proofs.lemmas.List.{get_or_append_left, length-append, length_pus
 use Rattle.m2_base.specs.declared.memory.Memory.{Memory}
 use Rattle.m2_base.proofs.Kept.{IsPrefixOf-refl, IsPrefixOf-trans}
 use Rattle.expr_sem.specs.Fragments.{Grows, IsIn, IsMade, MadeBy, part, part_by, parts_after}
-use Rattle.expr_sem.specs.Parts.{Part, none, ◌⨟◌}
+use Rattle.block_code.specs.Parts.{Part, none, ◌⨟◌}
 use Rattle.expr_sem.specs.declared.fragments.Fragment.{Fragment}
 use Rattle.expr_sem.specs.declared.fragments.Fragment.TheVariants.{Nothing, Node as NodeOf}
 use Rattle.expr_sem.specs.declared.fragments.Node.{Node}

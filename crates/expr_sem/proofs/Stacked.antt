@@ -5,7 +5,7 @@ use Rattle.std.proofs.lemmas.List.{get_or_push, length_push}
 use Rattle.m2_base.specs.Lists.{Each}
 use Rattle.m2_base.proofs.EachLaws.{each_append}
 use Rattle.expr_sem.specs.Fragments.{AreSound, IsBefore, IsIn, IsMadeOf, part, part_among, part_by, parts_after}
-use Rattle.expr_sem.specs.Parts.{Part, none, skip, ◌⨟◌}
+use Rattle.block_code.specs.Parts.{Part, none, skip, ◌⨟◌}
 use Rattle.expr_sem.specs.Fragments.{jump_of}
 use Rattle.expr_sem.specs.Stacks.{behind, stack_weight, three_to}
 use Rattle.expr_sem.specs.declared.fragments.Form.{Form}

@@ -8,8 +8,8 @@ use Rattle.m2_base.specs.declared.builtins.Builtin.{Builtin}
 use Rattle.m2_base.specs.declared.rows.Place.{Place}
 use Rattle.const_eval.proofs.Analysing.{and_then_assoc}
 use Rattle.expr_sem.specs.ExpressionParts.{first_argument, second_argument}
-use Rattle.expr_sem.specs.Expressions.{expression, standard}
-use Rattle.expr_sem.specs.StandardProcedures.{first_of_two, of_no_argument, of_one_argument}
+use Rattle.block_code.specs.Expressions.{expression, standard}
+use Rattle.block_code.specs.StandardProcedures.{first_of_two, of_no_argument, of_one_argument}
 
 module _ {X : Type 0} (c : Context) (withs : List Place) (f : Builtin) (view : X → Expr) where
   pub none_given : (xs : List X) → length xs < 1 → gives (of_no_argument f) ≡ standard c withs f (exprs (map view xs))

@@ -12,10 +12,10 @@ use Rattle.m2_base.specs.declared.operands.Operand.TheVariants.{Computed, Consta
 use Rattle.m2_base.specs.declared.rows.Place.{Place}
 use Rattle.m2_base.specs.Statics.Ranges.{Range, is_within}
 use Rattle.m2_base.specs.Statics.Assignable.{is_assignable, taken_into}
-use Rattle.expr_sem.specs.Coded.{Coded, in_error, taken, value_by}
-use Rattle.expr_sem.specs.Fitting.{fit_of}
-use Rattle.expr_sem.specs.Parts.{Part, none}
-use Rattle.expr_sem.specs.Values.{as_value_by, assigned_to, in_range, in_range_by, is_passed_over}
+use Rattle.block_code.specs.Coded.{Coded, in_error, taken, value_by}
+use Rattle.block_code.specs.Fitting.{fit_of}
+use Rattle.block_code.specs.Parts.{Part, none}
+use Rattle.block_code.specs.Values.{as_value_by, assigned_to, in_range, in_range_by, is_passed_over}
 use Rattle.expr_sem.specs.Takings.{taken_as, taking}
 use Rattle.expr_sem.specs.declared.takings.Taking.{Taking}
 use Rattle.expr_sem.specs.declared.takings.Taking.TheVariants.{PassedOver, Refused, Taken}

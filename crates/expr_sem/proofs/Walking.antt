@@ -20,10 +20,10 @@ use Rattle.const_eval.specs.Sites.{IsOperand}
 use Rattle.const_eval.proofs.Folding.{folded, folded_more}
 use Rattle.expr_sem.specs.Codings.{Coding}
 use Rattle.expr_sem.specs.Fragments.{Grows}
-use Rattle.expr_sem.specs.Parts.{Part}
+use Rattle.block_code.specs.Parts.{Part}
 use Rattle.expr_sem.specs.SetCodings.{AreElements, elements_in}
-use Rattle.expr_sem.specs.SetElements as sets
-use Rattle.expr_sem.specs.SetElements.{no_elements_yet}
+use Rattle.block_code.specs.SetElements as sets
+use Rattle.block_code.specs.SetElements.{no_elements_yet}
 use Rattle.expr_sem.specs.declared.fragments.Node.{Node}
 use Rattle.expr_sem.specs.declared.pieces.With.{With}
 use Rattle.expr_sem.specs.declared.set_elements.Elements.{Elements}

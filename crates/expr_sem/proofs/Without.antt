@@ -9,10 +9,10 @@ use Rattle.m2_base.specs.declared.operands.Operand.TheVariants.{Computed, Consta
 use Rattle.m2_base.specs.declared.rows.Place.{Place}
 use Rattle.m2_base.specs.declared.trees.operators.Operator.{Operator}
 use Rattle.m2_base.specs.declared.trees.operators.Operator.TheVariants.{And, Or}
-use Rattle.expr_sem.specs.Coded.{Coded, coded, in_error, taken}
-use Rattle.expr_sem.specs.Operators.{made, operation_code, two_instr}
-use Rattle.expr_sem.specs.Parts.{Part, plain, ◌⨟◌}
-use Rattle.expr_sem.specs.SetElements.{element_as, set_by}
+use Rattle.block_code.specs.Coded.{Coded, coded, in_error, taken}
+use Rattle.block_code.specs.Operators.{made, operation_code, two_instr}
+use Rattle.block_code.specs.Parts.{Part, plain, ◌⨟◌}
+use Rattle.block_code.specs.SetElements.{element_as, set_by}
 use Rattle.code_form.specs.declared.instr.Instr.TheVariants.{Push}
 
 -- of a result that isn't computed no code counts

@@ -4,7 +4,7 @@ use Rattle.std.specs.Option.{IfSome}
 use Rattle.m2_base.specs.States.{Frame}
 use Rattle.m2_base.specs.Statics.TypeParts as parts
 use Rattle.expr_sem.specs.Fragments.{IsIn, part}
-use Rattle.expr_sem.specs.Parts.{Part}
+use Rattle.block_code.specs.Parts.{Part}
 use Rattle.expr_sem.specs.declared.arguments.Parameter.{Parameter}
 use Rattle.expr_sem.specs.declared.fragments.Fragment.{Fragment}
 use Rattle.expr_sem.specs.declared.fragments.Node.{Node}

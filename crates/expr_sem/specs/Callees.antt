@@ -10,10 +10,10 @@ use Rattle.m2_base.specs.declared.rows.Place.{Place}
 use Rattle.code_form.specs.declared.instr.Instr.TheVariants.{CallVar, Load}
 use Rattle.type_rules.specs.Scenes.{IsThere}
 use Rattle.expr_sem.specs.ArgumentCodes.{parameter_view}
-use Rattle.expr_sem.specs.Calls as calls
+use Rattle.block_code.specs.Calls as calls
 use Rattle.expr_sem.specs.Fragments.{IsIn, part}
-use Rattle.expr_sem.specs.Parts.{Part, none, plain, ◌⨟◌}
-use Rattle.expr_sem.specs.ProcedureNames as names
+use Rattle.block_code.specs.Parts.{Part, none, plain, ◌⨟◌}
+use Rattle.block_code.specs.ProcedureNames as names
 use Rattle.expr_sem.specs.declared.calls.Callable.{Callable}
 use Rattle.expr_sem.specs.declared.calls.Callable.TheVariants.{Lacking, Nothing, Procedure, Standard}
 use Rattle.expr_sem.specs.declared.calls.Callee.{Callee}

@@ -13,10 +13,10 @@ use Rattle.m2_base.specs.declared.sites.Site.{Site}
 use Rattle.type_rules.specs.Scenes.{WhereTold}
 use Rattle.type_rules.specs.Sites.{AreOfSite, context_of}
 use Rattle.const_eval.specs.Sites.{IsOperand}
-use Rattle.expr_sem.specs.Coded as code
-use Rattle.expr_sem.specs.Coded.{no_high}
+use Rattle.block_code.specs.Coded as code
+use Rattle.block_code.specs.Coded.{no_high}
 use Rattle.expr_sem.specs.Fragments.{Grows, IsIn, part}
-use Rattle.expr_sem.specs.Parts.{Part}
+use Rattle.block_code.specs.Parts.{Part}
 use Rattle.expr_sem.specs.declared.coded.Coded.{Coded}
 use Rattle.expr_sem.specs.declared.fragments.Fragment.{Fragment}
 use Rattle.expr_sem.specs.declared.fragments.Node.{Node}

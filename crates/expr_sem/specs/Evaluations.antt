@@ -15,11 +15,11 @@ use Rattle.m2_base.specs.declared.sites.Site.{Site}
 use Rattle.type_rules.specs.Scenes.{WhereTold}
 use Rattle.type_rules.specs.Sites.{AreOfSite, context_of}
 use Rattle.const_eval.specs.Sites.{IsOperand}
-use Rattle.expr_sem.specs.Coded as code
+use Rattle.block_code.specs.Coded as code
 use Rattle.expr_sem.specs.Fragments.{IsIn, part}
-use Rattle.expr_sem.specs.Parts.{Part}
+use Rattle.block_code.specs.Parts.{Part}
 use Rattle.expr_sem.specs.Pieces.{Appended, IsAsBefore}
-use Rattle.expr_sem.specs.Whole.{AreWhole}
+use Rattle.block_code.specs.Whole.{AreWhole}
 use Rattle.expr_sem.specs.declared.fragments.Fragment.{Fragment}
 use Rattle.expr_sem.specs.declared.fragments.Node.{Node}
 use Rattle.expr_sem.specs.declared.pieces.Piece.{Piece}

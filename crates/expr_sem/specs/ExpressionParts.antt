@@ -9,15 +9,15 @@ use Rattle.m2_base.specs.Statics.TypeParts.{Parameter}
 use Rattle.m2_base.specs.declared.builtins.Builtin.{Builtin}
 use Rattle.m2_base.specs.declared.rows.Place.{Place}
 use Rattle.type_rules.specs.Scenes.{IsThere}
-use Rattle.expr_sem.specs.Arguments.{after_argument, argument}
-use Rattle.expr_sem.specs.Calls.{Called, called}
-use Rattle.expr_sem.specs.Coded.{Coded}
-use Rattle.expr_sem.specs.Elements.{select_element}
-use Rattle.expr_sem.specs.Expressions.{by_called, count_of_exprs, designated, elements, expression, looked_at, passed}
-use Rattle.expr_sem.specs.Expressions.{standard, value}
-use Rattle.expr_sem.specs.Parts.{Part}
-use Rattle.expr_sem.specs.SetElements.{Elements, add_range, element_coded, no_elements_yet, set_coded}
-use Rattle.expr_sem.specs.StandardProcedures.{first_of_two, of_two_arguments}
+use Rattle.block_code.specs.Arguments.{after_argument, argument}
+use Rattle.block_code.specs.Calls.{Called, called}
+use Rattle.block_code.specs.Coded.{Coded}
+use Rattle.block_code.specs.Elements.{select_element}
+use Rattle.block_code.specs.Expressions.{by_called, count_of_exprs, designated, elements, expression, looked_at, passed}
+use Rattle.block_code.specs.Expressions.{standard, value}
+use Rattle.block_code.specs.Parts.{Part}
+use Rattle.block_code.specs.SetElements.{Elements, add_range, element_coded, no_elements_yet, set_coded}
+use Rattle.block_code.specs.StandardProcedures.{first_of_two, of_two_arguments}
 use Rattle.expr_sem.specs.declared.fragments.Node.{Node}
 
 -- a type that can be asked for

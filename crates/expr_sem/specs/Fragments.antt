@@ -6,8 +6,8 @@ use Rattle.m2_base.specs.declared.memory.Memory.{Memory}
 use Rattle.code_form.specs.declared.instr.Instr.{Instr}
 use Rattle.code_form.specs.declared.instr.Instr.TheVariants.{AndJump, OrJump}
 use Rattle.code_form.specs.Heights.{Step}
-use Rattle.expr_sem.specs.Arguments.{string_copy}
-use Rattle.expr_sem.specs.Parts.{Part, Spot, none, skip, steps, steps_size, text, with_record, ◌⨟◌}
+use Rattle.block_code.specs.Arguments.{string_copy}
+use Rattle.block_code.specs.Parts.{Part, Spot, none, skip, steps, steps_size, text, with_record, ◌⨟◌}
 use Rattle.expr_sem.specs.declared.fragments.Connective.{Connective}
 use Rattle.expr_sem.specs.declared.fragments.Connective.TheVariants.{And, Or}
 use Rattle.expr_sem.specs.declared.fragments.Form.{Form}

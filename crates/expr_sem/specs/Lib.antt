@@ -1,19 +1,3 @@
-pub mod Parts
-pub mod ProcedureNames
-pub mod Coded
-pub mod Fitting
-pub mod Values
-pub mod Variables
-pub mod RecordFields
-pub mod Elements
-pub mod Operators
-pub mod SetElements
-pub mod StandardFunctions
-pub mod StandardProcedures
-pub mod Arguments
-pub mod Calls
-pub mod Expressions
-pub mod Heights
 pub mod Fragments
 pub mod Codings
 pub mod Coders
@@ -36,6 +20,3 @@ pub mod Callees
 pub mod Signatures
 pub mod ExpressionParts
 pub mod Evaluations
-pub mod Tokens
-pub mod Lengths
-pub mod Whole

@@ -2,7 +2,7 @@
 use Rattle.std.specs.Prelude.{◌≡◌, List, ◌++◌, map}
 use Rattle.m2_base.specs.Lists.{IsPrefixOf}
 use Rattle.expr_sem.specs.Fragments.{step_view}
-use Rattle.expr_sem.specs.Parts.{Made, Part, Spot}
+use Rattle.block_code.specs.Parts.{Made, Part, Spot}
 use Rattle.expr_sem.specs.declared.pieces.Piece.{Piece}
 use Rattle.expr_sem.specs.declared.pieces.With.{With}
 

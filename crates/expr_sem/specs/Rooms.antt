@@ -4,9 +4,9 @@ use Rattle.m2_base.specs.Statics.Contexts.{Scene}
 use Rattle.m2_base.specs.Statics.Types.{is_broken, size_of}
 use Rattle.m2_base.specs.declared.rows.Place.{Place}
 use Rattle.code_form.specs.declared.instr.Instr.TheVariants.{New as Room}
-use Rattle.expr_sem.specs.Coded.{Coded, coded, in_error}
-use Rattle.expr_sem.specs.Parts.{Part, plain, ◌⨟◌}
-use Rattle.expr_sem.specs.StandardProcedures.{no_value}
+use Rattle.block_code.specs.Coded.{Coded, coded, in_error}
+use Rattle.block_code.specs.Parts.{Part, plain, ◌⨟◌}
+use Rattle.block_code.specs.StandardProcedures.{no_value}
 
 -- room of this size, for the pointer whose address this code gives
 abbrev pub room_at : Part → (size : ℕ) → Coded

@@ -12,8 +12,8 @@ use Rattle.m2_base.specs.Statics.Types.{is_broken}
 use Rattle.m2_base.specs.declared.operands.Operand.TheVariants.{Variable}
 use Rattle.code_form.specs.declared.instr.Instr.TheVariants.{Load, Nil}
 use Rattle.type_rules.specs.Members.{IsFieldThere}
-use Rattle.expr_sem.specs.Coded.{Coded, coded, in_error}
-use Rattle.expr_sem.specs.Parts.{Part, plain, ◌⨟◌}
+use Rattle.block_code.specs.Coded.{Coded, coded, in_error}
+use Rattle.block_code.specs.Parts.{Part, plain, ◌⨟◌}
 
 -- the row of a field: its numbers have 32 bits, and its type can be asked for
 pub record IsField (f : Frame) (m : RowMeaning) : Type 0 where

@@ -3,7 +3,7 @@ use Rattle.std.specs.Prelude.{List}
 use Rattle.m2_base.specs.States.{Frame}
 use Rattle.const_eval.specs.Sites.{IsOperand}
 use Rattle.expr_sem.specs.Fragments.{IsIn, part}
-use Rattle.expr_sem.specs.SetElements as sets
+use Rattle.block_code.specs.SetElements as sets
 use Rattle.expr_sem.specs.declared.fragments.Node.{Node}
 use Rattle.expr_sem.specs.declared.set_elements.Elements.{Elements}
 

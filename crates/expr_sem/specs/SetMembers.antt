@@ -5,8 +5,8 @@ use Rattle.m2_base.specs.Statics.Contexts.{Context, refuse}
 use Rattle.m2_base.specs.Statics.Diagnostics.{wrong_argument}
 use Rattle.m2_base.specs.declared.operands.Operand.{Operand}
 use Rattle.m2_base.specs.declared.rows.Place.{Place}
-use Rattle.expr_sem.specs.Coded.{Coded, in_error, taken}
-use Rattle.expr_sem.specs.Values.{in_range}
+use Rattle.block_code.specs.Coded.{Coded, in_error, taken}
+use Rattle.block_code.specs.Values.{in_range}
 
 -- an element beside a value of the set's base, where they are compatible
 abbrev pub member_by : Context → (at : ℕ) → (base : Place) → Coded → Option (Operand × Operand) → Gives Coded

@@ -1,7 +1,7 @@
 -- Fragments that are still to be appended, the next one last.
 use Rattle.std.specs.Prelude.{◌≡◌, ℕ, zero, suc, ◌+◌, List, [], ◌∷◌, ◌++◌, map}
 use Rattle.expr_sem.specs.Fragments.{part, part_by, parts_after, step_view}
-use Rattle.expr_sem.specs.Parts.{Made, Part, none, ◌⨟◌}
+use Rattle.block_code.specs.Parts.{Made, Part, none, ◌⨟◌}
 use Rattle.expr_sem.specs.Pieces.{spot_of}
 use Rattle.expr_sem.specs.declared.fragments.Form.{Form}
 use Rattle.expr_sem.specs.declared.fragments.Form.TheVariants.{Skip, Then}

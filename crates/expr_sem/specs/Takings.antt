@@ -7,8 +7,8 @@ use Rattle.m2_base.specs.Statics.Contexts.{Context, refuse}
 use Rattle.m2_base.specs.declared.operands.Operand.{Operand}
 use Rattle.m2_base.specs.declared.rows.Place.{Place}
 use Rattle.const_eval.specs.Sites.{IsOperand}
-use Rattle.expr_sem.specs.Coded.{Coded, in_error, taken}
-use Rattle.expr_sem.specs.Values.{in_range, is_passed_over}
+use Rattle.block_code.specs.Coded.{Coded, in_error, taken}
+use Rattle.block_code.specs.Values.{in_range, is_passed_over}
 use Rattle.expr_sem.specs.declared.takings.Taking.{Taking}
 use Rattle.expr_sem.specs.declared.takings.Taking.TheVariants.{PassedOver, Refused, Taken}
 

@@ -1,6 +1,6 @@
 -- A procedure as code names it, as the definitions see it.
-use Rattle.expr_sem.specs.ProcedureNames as names
-use Rattle.expr_sem.specs.ProcedureNames.{target}
+use Rattle.block_code.specs.ProcedureNames as names
+use Rattle.block_code.specs.ProcedureNames.{target}
 use Rattle.expr_sem.specs.declared.procedure_names.Target.{Target}
 
 abbrev pub target_view : Target → names.Target

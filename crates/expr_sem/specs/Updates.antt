@@ -2,7 +2,7 @@
 use Rattle.std.specs.Prelude.{List, [], ◌∷◌, Option, Some, None}
 use Rattle.code_form.specs.declared.instr.Instr.{Instr}
 use Rattle.code_form.specs.declared.instr.Instr.TheVariants.{Load, Store, Dup}
-use Rattle.expr_sem.specs.Parts.{Part, plain, ◌⨟◌}
+use Rattle.block_code.specs.Parts.{Part, plain, ◌⨟◌}
 use Rattle.expr_sem.specs.declared.updates.Change.{Change}
 
 -- a second instruction, where there is one

@@ -16,11 +16,11 @@ use Rattle.const_eval.specs.Calls.{of_value}
 use Rattle.const_eval.specs.Sites.{IsOperand}
 use Rattle.const_eval.specs.declared.calls.ValueFunction.{ValueFunction}
 use Rattle.const_eval.specs.declared.calls.ValueFunction.TheVariants.{Abs, Cap, Chr, Odd, Ord}
-use Rattle.expr_sem.specs.Coded.{Coded, value_code}
-use Rattle.expr_sem.specs.Fitting.{fitted_code}
-use Rattle.expr_sem.specs.Operators.{made, side_of}
-use Rattle.expr_sem.specs.Parts.{Part, plain, ◌⨟◌}
-use Rattle.expr_sem.specs.StandardFunctions.{high_of_range, magnitude, named_type}
+use Rattle.block_code.specs.Coded.{Coded, value_code}
+use Rattle.block_code.specs.Fitting.{fitted_code}
+use Rattle.block_code.specs.Operators.{made, side_of}
+use Rattle.block_code.specs.Parts.{Part, plain, ◌⨟◌}
+use Rattle.block_code.specs.StandardFunctions.{high_of_range, magnitude, named_type}
 use Rattle.expr_sem.specs.declared.value_functions.Ending.{Ending}
 use Rattle.expr_sem.specs.declared.value_functions.Ending.TheVariants.{Nothing, Magnitude, Capital, Oddness}
 use Rattle.expr_sem.specs.declared.value_functions.Rule.{Rule}

@@ -4,7 +4,7 @@ use Rattle.m2_base.specs.Statics.Contexts.{Scene}
 use Rattle.m2_base.specs.Statics.Operations.{is_set_kind}
 use Rattle.m2_base.specs.Statics.Types.{kind_of, range_of}
 use Rattle.m2_base.specs.declared.rows.Place.{Place}
-use Rattle.expr_sem.specs.StandardProcedures.{is_pointer_type}
+use Rattle.block_code.specs.StandardProcedures.{is_pointer_type}
 use Rattle.expr_sem.specs.declared.variable_arguments.Wanted.{Wanted}
 use Rattle.expr_sem.specs.declared.variable_arguments.Wanted.TheVariants.{Ordinal, Set, Pointer}
 

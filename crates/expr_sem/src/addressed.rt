@@ -6,10 +6,10 @@ ghost use Rattle.m2_base.specs.declared.notes.Notes.{Notes};
 ghost use Rattle.m2_base.specs.declared.operands.Operand.TheVariants.{Variable};
 ghost use Rattle.m2_base.specs.declared.sites.Site.{Site};
 ghost use Rattle.type_rules.specs.Scenes.{IsThere};
-ghost use Rattle.expr_sem.specs.Coded.{coded};
+ghost use Rattle.block_code.specs.Coded.{coded};
 ghost use Rattle.expr_sem.specs.Codings.{Coding, IsCoded, coded_in};
 ghost use Rattle.expr_sem.specs.Fragments.{IsMade};
-ghost use Rattle.expr_sem.specs.Parts.{Part};
+ghost use Rattle.block_code.specs.Parts.{Part};
 ghost use Rattle.expr_sem.specs.declared.fragments.Node.{Node};
 
 use crate::coded::Coded;

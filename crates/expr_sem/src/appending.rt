@@ -2,9 +2,9 @@
 ghost use Rattle.std.specs.Prelude.{◌≡◌, ◌+◌, ◌∷◌, [], List, ◌++◌, OnOk, length, map, min, slice_index};
 ghost use Rattle.m2_base.specs.Lists.{IsPrefixOf};
 ghost use Rattle.m2_base.specs.Statics.Cells.{capped};
-ghost use Rattle.expr_sem.specs.Arguments.{string_copy as spec_copy};
+ghost use Rattle.block_code.specs.Arguments.{string_copy as spec_copy};
 ghost use Rattle.expr_sem.specs.Fragments.{AreSound, IsIn, IsMadeOf, part};
-ghost use Rattle.expr_sem.specs.Parts.{plain, steps, text as spec_text, unless_too_many};
+ghost use Rattle.block_code.specs.Parts.{plain, steps, text as spec_text, unless_too_many};
 ghost use Rattle.expr_sem.specs.Pieces.{Appended, Begins};
 ghost use Rattle.expr_sem.specs.declared.pieces.With.{With as OpenWith};
 ghost use Rattle.expr_sem.specs.Stacks.{Visited};

@@ -5,7 +5,7 @@ ghost use Rattle.m2_base.specs.States.{Frame, State};
 ghost use Rattle.m2_base.specs.declared.notes.Notes.{Notes as NotesOf};
 ghost use Rattle.m2_base.specs.declared.sites.Site.{Site as SiteOf};
 ghost use Rattle.expr_sem.specs.ArgumentCodes.{IsArgument, argument_in, parameter_view};
-ghost use Rattle.expr_sem.specs.Arguments.{after_argument};
+ghost use Rattle.block_code.specs.Arguments.{after_argument};
 ghost use Rattle.expr_sem.specs.Codings.{Coding};
 ghost use Rattle.expr_sem.specs.ExpressionParts.{all_passed as spec_all, behind_first as spec_behind};
 ghost use Rattle.expr_sem.specs.declared.fragments.Node.{Node};

@@ -1,7 +1,7 @@
 //! Instructions one after another, and behind fragments.
 ghost use Rattle.std.specs.Prelude.{◌∷◌, []};
 ghost use Rattle.expr_sem.specs.Fragments.{IsIn, IsMade, part};
-ghost use Rattle.expr_sem.specs.Parts.{plain, ◌⨟◌};
+ghost use Rattle.block_code.specs.Parts.{plain, ◌⨟◌};
 
 use crate::fragments::{Fragment, Fragments};
 use code_form::Instr;

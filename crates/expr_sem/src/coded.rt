@@ -1,7 +1,7 @@
 //! What an expression or a designator stands for, with its code.
 ghost use Rattle.std.specs.Prelude.{◌≡◌, List};
 ghost use Rattle.m2_base.specs.States.{Frame};
-ghost use Rattle.expr_sem.specs.Coded.{bare, coded, in_error, taken as spec_taken};
+ghost use Rattle.block_code.specs.Coded.{bare, coded, in_error, taken as spec_taken};
 ghost use Rattle.expr_sem.specs.Codings.{IsCoded, coded_in};
 ghost use Rattle.expr_sem.specs.Fragments.{IsIn, part};
 ghost use Rattle.expr_sem.specs.declared.fragments.Node.{Node};

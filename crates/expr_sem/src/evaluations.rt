@@ -2,10 +2,10 @@
 ghost use Rattle.m2_base.specs.Statics.ReadTrees.{IsReadDesignator, IsReadExpr};
 ghost use Rattle.m2_base.specs.Views.{designator_view, expr_view};
 ghost use Rattle.expr_sem.specs.Coders.{Keeps, SeesWiths, SuitsPlace, names_of, nodes_of};
-ghost use Rattle.expr_sem.specs.Coded.{value_code as spec_code};
+ghost use Rattle.block_code.specs.Coded.{value_code as spec_code};
 ghost use Rattle.expr_sem.specs.Codings.{with_types};
 ghost use Rattle.expr_sem.specs.Evaluations.{Evaluates};
-ghost use Rattle.expr_sem.specs.Expressions.{designated as spec_designated, value as spec_value};
+ghost use Rattle.block_code.specs.Expressions.{designated as spec_designated, value as spec_value};
 ghost use Rattle.expr_sem.specs.Fragments.{AreSound};
 
 use crate::coder::Coder;

@@ -1,10 +1,10 @@
 //! Fragments of code: each is made of earlier ones, so that no code is copied while a statement is put together.
 ghost use Rattle.std.specs.Prelude.{◌≡◌, ◌∷◌, [], length};
-ghost use Rattle.expr_sem.specs.Arguments.{string_copy as spec_copy};
+ghost use Rattle.block_code.specs.Arguments.{string_copy as spec_copy};
 ghost use Rattle.expr_sem.specs.Fragments.{AreSound, IsIn, IsMade, IsMadeOf, jump_of, part, part_by, parts_after};
 ghost use Rattle.expr_sem.specs.Fragments.{step_view};
-ghost use Rattle.expr_sem.specs.Parts.{Spot, plain, skip as spec_skip, steps, steps_size, text as spec_text};
-ghost use Rattle.expr_sem.specs.Parts.{with_record as spec_record, ◌⨟◌};
+ghost use Rattle.block_code.specs.Parts.{Spot, plain, skip as spec_skip, steps, steps_size, text as spec_text};
+ghost use Rattle.block_code.specs.Parts.{with_record as spec_record, ◌⨟◌};
 
 use crate::steps::Step;
 use code_form::Instr;

@@ -1,9 +1,7 @@
 //! Which code does an expression become?
 //!
-//! The words are those of Wirth's report and of the machine's instructions (`code_form`). What an expression stands
-//! for is said by the static rules (`m2_base`'s `specs/Statics`); here its code stands beside it. A part of code is a
-//! function of where it stands (`specs/Parts`). `specs/Expressions` goes over the trees; each rule of the language has
-//! a file of its own below it.
+//! The one that `block_code` defines: beside what an expression stands for its code, a part of code being a function of
+//! where it stands (`specs/Parts` there). Each rule of the language has a file of its own.
 //!
 //! A `Coder` makes the code. It is lent the scopes, which it asks for rows; the site with its names, its block and
 //! its text; the open WITHs, the innermost first; the fragments made so far; and the notes. Its `value` and `address`
@@ -128,10 +126,7 @@ pub use coder::Coder;
 pub use elements::cells_of;
 pub use fitting::fitted_code;
 pub use fragments::{Connective, Form, Fragment, Fragments, Node};
-pub use laws::{
-    code_is_short, diagnostics_leave_nothing, errors_have_a_cause, errors_have_no_code,
-    heights_are_right, operands_are_known,
-};
+pub use laws::diagnostics_leave_nothing;
 pub use operators::{made, side_of};
 pub use pieces::{Piece, With, append};
 pub use record_fields::field_of_withs;

@@ -11,12 +11,12 @@ ghost use Rattle.type_rules.specs.Scenes.{IsThere, Suits, WhereTold, scene_of};
 ghost use Rattle.expr_sem.specs.Coders.{Codes, Keeps, SeesWiths, SuitsPlace, frame_of, nodes_of};
 ghost use Rattle.expr_sem.specs.Codings.{IsCoded, coded_in, with_types};
 ghost use Rattle.expr_sem.specs.Fragments.{IsIn, IsMade, part};
-ghost use Rattle.expr_sem.specs.Parts.{◌⨟◌};
-ghost use Rattle.expr_sem.specs.RecordFields.{field_coded as spec_field_coded, name_coded as spec_name};
-ghost use Rattle.expr_sem.specs.RecordFields.{offset_code as spec_offset};
-ghost use Rattle.expr_sem.specs.RecordFields.{select_field as spec_field};
+ghost use Rattle.block_code.specs.Parts.{◌⨟◌};
+ghost use Rattle.block_code.specs.RecordFields.{field_coded as spec_field_coded, name_coded as spec_name};
+ghost use Rattle.block_code.specs.RecordFields.{offset_code as spec_offset};
+ghost use Rattle.block_code.specs.RecordFields.{select_field as spec_field};
 ghost use Rattle.expr_sem.specs.Selections.{IsField, with_number as spec_number};
-ghost use Rattle.expr_sem.specs.Variables.{entry_coded as spec_entry};
+ghost use Rattle.block_code.specs.Variables.{entry_coded as spec_entry};
 
 use crate::addressed::variable_at;
 use crate::coded::Coded;

@@ -7,7 +7,7 @@ ghost use Rattle.m2_base.specs.declared.notes.Notes.{Notes as NotesOf};
 ghost use Rattle.m2_base.specs.declared.sites.Site.{Site as SiteOf};
 ghost use Rattle.expr_sem.specs.Codings.{Coding, IsCoded, coded_in};
 ghost use Rattle.expr_sem.specs.Fragments.{IsIn};
-ghost use Rattle.expr_sem.specs.StandardProcedures.{disposed as spec_disposed, new_room as spec_new};
+ghost use Rattle.block_code.specs.StandardProcedures.{disposed as spec_disposed, new_room as spec_new};
 ghost use Rattle.type_rules.specs.Asks.{Reads, WhereKnown, WhereWaiting};
 ghost use Rattle.type_rules.specs.Scenes.{IsThere, Suits, WhereTold, scene_of};
 ghost use Rattle.type_rules.specs.Sites.{SuitsSite};

@@ -4,8 +4,8 @@ ghost use Rattle.m2_base.specs.Gives.{and_then, gives};
 ghost use Rattle.const_eval.specs.Sites.{IsOperand};
 ghost use Rattle.expr_sem.specs.Coders.{Codes, Keeps, SuitsPlace, frame_of, nodes_of};
 ghost use Rattle.expr_sem.specs.Codings.{Coding, IsCoded, coded_in};
-ghost use Rattle.expr_sem.specs.StandardProcedures.{included as spec_included};
-ghost use Rattle.expr_sem.specs.StandardProcedures.{set_member as spec_member};
+ghost use Rattle.block_code.specs.StandardProcedures.{included as spec_included};
+ghost use Rattle.block_code.specs.StandardProcedures.{set_member as spec_member};
 ghost use Rattle.expr_sem.specs.declared.fragments.Node.{Node};
 ghost use Rattle.type_rules.specs.Sites.{SuitsSite};
 

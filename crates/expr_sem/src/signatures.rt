@@ -4,7 +4,7 @@ ghost use Rattle.m2_base.specs.Asks.{IfKnown, IfWaits};
 ghost use Rattle.m2_base.specs.Lists.{Each};
 ghost use Rattle.m2_base.specs.States.{Waits};
 ghost use Rattle.expr_sem.specs.ArgumentCodes.{parameter_view};
-ghost use Rattle.expr_sem.specs.Calls.{cells_of_all as spec_cells, result_cells as spec_result};
+ghost use Rattle.block_code.specs.Calls.{cells_of_all as spec_cells, result_cells as spec_result};
 ghost use Rattle.expr_sem.specs.Signatures.{IsSignature, IsSignatureBy, IsSignatureOf};
 ghost use Rattle.type_rules.specs.Asks.{Reads};
 ghost use Rattle.type_rules.specs.Forms.{IsFormHere, parameters_from};

@@ -2,7 +2,7 @@
 ghost use Rattle.std.specs.Prelude.{◌≡◌};
 ghost use Rattle.code_form.specs.Bytes.{size as spec_size};
 ghost use Rattle.expr_sem.specs.Fragments.{step_view};
-ghost use Rattle.expr_sem.specs.Parts.{plain_step};
+ghost use Rattle.block_code.specs.Parts.{plain_step};
 
 use code_form::{Effect, Instr};
 

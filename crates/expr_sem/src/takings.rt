@@ -4,7 +4,7 @@ ghost use Rattle.m2_base.specs.States.{Waits};
 ghost use Rattle.m2_base.specs.Statics.Assignable.{taken_into as spec_taken_into};
 ghost use Rattle.const_eval.specs.Sites.{IsOperand};
 ghost use Rattle.expr_sem.specs.Takings.{IsTaking, taking as spec_taking};
-ghost use Rattle.expr_sem.specs.Values.{is_passed_over as spec_passed_over};
+ghost use Rattle.block_code.specs.Values.{is_passed_over as spec_passed_over};
 ghost use Rattle.type_rules.specs.Asks.{Reads, WhereKnown, WhereWaiting};
 ghost use Rattle.type_rules.specs.Scenes.{IsThere, Suits, WhereTold, scene_of};
 ghost use Rattle.type_rules.specs.Sites.{SuitsSite, context_of};

@@ -2,8 +2,8 @@
 ghost use Rattle.std.specs.Prelude.{◌≡◌, List};
 ghost use Rattle.m2_base.specs.States.{State, Waits};
 ghost use Rattle.expr_sem.specs.Codings.{Coding, IsCoded, coded_in};
-ghost use Rattle.expr_sem.specs.StandardFunctions.{as_variable as spec_variable};
-ghost use Rattle.expr_sem.specs.StandardProcedures.{variable_argument as spec_argument};
+ghost use Rattle.block_code.specs.StandardFunctions.{as_variable as spec_variable};
+ghost use Rattle.block_code.specs.StandardProcedures.{variable_argument as spec_argument};
 ghost use Rattle.expr_sem.specs.VariableArguments.{is_wanted as spec_wanted};
 ghost use Rattle.expr_sem.specs.declared.fragments.Node.{Node};
 ghost use Rattle.type_rules.specs.Asks.{Reads, WhereKnown, WhereWaiting};

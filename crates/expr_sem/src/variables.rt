@@ -8,8 +8,8 @@ ghost use Rattle.type_rules.specs.Scenes.{IsRowOf, block_of};
 ghost use Rattle.type_rules.specs.Sites.{SuitsSite};
 ghost use Rattle.const_eval.specs.Sites.{IsOperand};
 ghost use Rattle.expr_sem.specs.Codings.{Coding, IsCoded, coded_in};
-ghost use Rattle.expr_sem.specs.Variables.{cell_instr as spec_cell, entry_coded as spec_entry};
-ghost use Rattle.expr_sem.specs.Variables.{links_out as spec_links, with_address as spec_with};
+ghost use Rattle.block_code.specs.Variables.{cell_instr as spec_cell, entry_coded as spec_entry};
+ghost use Rattle.block_code.specs.Variables.{links_out as spec_links, with_address as spec_with};
 
 use crate::addressed::variable_at;
 use crate::chains::pair;

@@ -13,7 +13,7 @@ use Rattle.m2_base.specs.declared.notes.Diag.{Diag}
 use Rattle.m2_base.specs.declared.outputs.Output.{Output}
 use Rattle.m2_base.specs.declared.rows.Row.{Row}
 use Rattle.row_laws.specs.RowRanges.{EachBlock}
-use Rattle.stmt_sem.specs.BlockCode.{block_diags}
+use Rattle.block_code.specs.BlockCode.{block_diags}
 use Rattle.block_laws.specs.Worlds.{over_blocks}
 use Rattle.unit_merge.specs.Outputs.{output_diags}
 use Rattle.merge_laws.specs.Outcome.{unit_diags}

@@ -28,7 +28,7 @@ use Rattle.row_laws.specs.Procedures.{HasNumber, IsDeclared, IsSeenAs, IsTypeOf}
 use Rattle.row_laws.proofs.ClearUnits.{unit_headings}
 use Rattle.row_laws.proofs.Members.{each_at, each_in}
 use Rattle.row_laws.proofs.Units.{each_block_then}
-use Rattle.stmt_sem.specs.BlockCode.{block_diags}
+use Rattle.block_code.specs.BlockCode.{block_diags}
 use Rattle.block_laws.specs.Worlds.{unit_world}
 use Rattle.block_laws.proofs.BlocksAt.{before_of, unit_made}
 use Rattle.block_laws.proofs.CodeIsValid.{declared-none}

@@ -18,8 +18,8 @@ use Rattle.m2_base.specs.declared.outputs.Output.{Output}
 use Rattle.m2_base.specs.declared.rows.Row.{Row}
 use Rattle.stream_split.proofs.BlocksAgree.{blocks_agree}
 use Rattle.stream_split.proofs.ReadUnits.{trees_read}
-use Rattle.stmt_sem.specs.BlockCode.{ProcedureCode, block_code}
-use Rattle.stmt_sem.specs.ProcedureCodes.{code_view}
+use Rattle.block_code.specs.BlockCode.{ProcedureCode, block_code}
+use Rattle.block_code.specs.ProcedureCodes.{code_view}
 use Rattle.block_laws.specs.Named as named
 use Rattle.block_laws.specs.Worlds as worlds
 use Rattle.block_laws.specs.Worlds.{import_over, name_bytes, of_blocks, over_blocks, unit_world}

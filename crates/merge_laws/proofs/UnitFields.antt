@@ -35,9 +35,9 @@ use Rattle.row_laws.proofs.Members.{each_got, each_in, each_take}
 use Rattle.row_laws.proofs.TextBlocks as texts_blocks
 use Rattle.stream_split.proofs.BlocksAgree.{blocks_agree}
 use Rattle.stream_split.proofs.ReadUnits.{trees_read}
-use Rattle.stmt_sem.specs.BlockCode.{ProcedureCode, block_code, body_of, first_cell, outer_of, params_of, results_of, run_of}
-use Rattle.stmt_sem.specs.Tokens.{block_tokens}
-use Rattle.stmt_sem.proofs.LengthLaw.{block-in_range}
+use Rattle.block_code.specs.BlockCode.{ProcedureCode, block_code, body_of, first_cell, outer_of, params_of, results_of, run_of}
+use Rattle.block_code.specs.StatementTokens.{block_tokens}
+use Rattle.block_code.proofs.StatementLengthLaw.{block-in_range}
 use Rattle.block_laws.specs.Named.{procedure_of}
 use Rattle.block_laws.specs.Worlds.{callee_of, import_over, name_bytes, of_blocks, unit_world, without_own}
 use Rattle.block_laws.proofs.BlocksAt.{at_drop, before_of, in_at, scope_at, unit_each, unit_over, unit_place}

@@ -14,8 +14,8 @@ use Rattle.m2_base.specs.declared.outputs.HeadingNote.{HeadingNote}
 use Rattle.m2_base.specs.declared.outputs.Output.{Output}
 use Rattle.stream_split.specs.Streams.{streams_of}
 use Rattle.row_laws.specs.RowRanges.{EachBlock}
-use Rattle.stmt_sem.specs.BlockCode.{ProcedureCode, block_code, block_diags}
-use Rattle.stmt_sem.specs.ProcedureCodes.{code_view}
+use Rattle.block_code.specs.BlockCode.{ProcedureCode, block_code, block_diags}
+use Rattle.block_code.specs.ProcedureCodes.{code_view}
 use Rattle.block_laws.specs.Worlds.{of_blocks}
 use Rattle.unit_merge.specs.Objects.{cells_by, headings_by}
 use Rattle.unit_merge.specs.Outputs.{IsOutputOf}

@@ -5,10 +5,10 @@ use Rattle.m2_base.specs.Statics.Diagnostics.{wrong_operands, not_a_variable}
 use Rattle.m2_base.specs.declared.operands.Operand.{Operand}
 use Rattle.m2_base.specs.declared.operands.Operand.TheVariants.{Constant, InError, StringConstant, Variable}
 use Rattle.m2_base.specs.declared.rows.Place.{Place}
-use Rattle.expr_sem.specs.Coded.{in_error, Coded}
-use Rattle.expr_sem.specs.Parts.{Part}
-use Rattle.stmt_sem.specs.Assignments.{store_by, store_value}
-use Rattle.stmt_sem.specs.Counting.{by_constant, controls_by}
+use Rattle.block_code.specs.Coded.{in_error, Coded}
+use Rattle.block_code.specs.Parts.{Part}
+use Rattle.block_code.specs.Assignments.{store_by, store_value}
+use Rattle.block_code.specs.Counting.{by_constant, controls_by}
 use Rattle.m2_base.specs.Statics.Lookup.{Entry}
 
 pub store_other : (c : Context) (t : Place) (to : Part) (x : Coded) (o : Operand) → (o ≡ InError → ⊥) → ((n l : ℕ) → o ≡ StringConstant n l → ⊥) → store_value c t to x ≡ store_by c t to x o

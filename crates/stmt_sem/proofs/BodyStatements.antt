@@ -24,21 +24,21 @@ use Rattle.m2_base.specs.declared.copies.ParamCopy.{ParamCopy}
 use Rattle.type_rules.specs.Scenes.{AreInHand, Hand}
 use Rattle.type_rules.specs.Sites.{context_of}
 use Rattle.code_form.specs.Heights.{Step}
-use Rattle.expr_sem.specs.Parts.{Made, steps_size}
+use Rattle.block_code.specs.Parts.{Made, steps_size}
 use Rattle.expr_sem.specs.Pieces.{Appended, extend}
 use Rattle.expr_sem.specs.declared.pieces.Piece.{Piece}
-use Rattle.stmt_sem.specs.BlockCode.{body_of, ending, first_cell, first_spot, in_statements, prologue, run_of, size_by, size_diags, stand_of}
+use Rattle.block_code.specs.BlockCode.{body_of, ending, first_cell, first_spot, in_statements, prologue, run_of, size_by, size_diags, stand_of}
 use Rattle.stmt_sem.specs.Bodies.{Adding, Built, IsAdded, IsBuilt, IsWhole, Whole, given_in, left, rest_from, whole_in, whole_of}
 use Rattle.expr_sem.specs.declared.fragments.Node.{Node}
 use Rattle.stmt_sem.specs.FlowTrees.{flow_in}
 use Rattle.stmt_sem.specs.Flowings.{Flowing, IsFlow}
-use Rattle.stmt_sem.specs.Flows.{Flow, Run, part_at, straight, ◌⨾◌}
+use Rattle.block_code.specs.Flows.{Flow, Run, part_at, straight, ◌⨾◌}
 use Rattle.stmt_sem.specs.Stands.{at_first}
-use Rattle.stmt_sem.specs.Statements.{flow_of, statement_flow}
+use Rattle.block_code.specs.Statements.{flow_of, statement_flow}
 use Rattle.stmt_sem.specs.Stating.{Returns, block_at, given_at, made_in, spot_at, statement_at}
 use Rattle.stmt_sem.specs.declared.flows.Flow.{Flow as FlowOf}
 use Rattle.stmt_sem.proofs.PiecesJoined.{made_behind}
-use Rattle.stmt_sem.proofs.Still.{Still, statement-still}
+use Rattle.block_code.proofs.Still.{Still, statement-still}
 use Rattle.stmt_sem.proofs.TopStatements.{answers_shown, none_in_hand}
 
 -- ---- the statements that are left

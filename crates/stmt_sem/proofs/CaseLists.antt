@@ -17,17 +17,17 @@ use Rattle.m2_base.specs.declared.sites.Site.{Site}
 use Rattle.const_eval.specs.Analyses.{Analysed}
 use Rattle.case_labels.specs.Seen.{AreAny, answer_as, labels_seen, test_seen}
 use Rattle.case_labels.specs.declared.labels.CaseLabels.{CaseLabels}
-use Rattle.stmt_sem.specs.Cases.{labels_code}
+use Rattle.block_code.specs.Cases.{labels_code}
 use Rattle.expr_sem.specs.Fragments.{Grows}
 use Rattle.expr_sem.specs.declared.fragments.Node.{Node}
 use Rattle.expr_sem.proofs.Sequencing.{Grows-refl}
 use Rattle.stmt_sem.specs.FlowTrees.{arms_among, flow_in}
 use Rattle.stmt_sem.specs.Flowings.{Flowing}
-use Rattle.stmt_sem.specs.Flows as flow
-use Rattle.stmt_sem.specs.Flows.{choose}
+use Rattle.block_code.specs.Flows as flow
+use Rattle.block_code.specs.Flows.{choose}
 use Rattle.stmt_sem.specs.Stated.{AreArms, IsArm, case_in, cases_in}
-use Rattle.stmt_sem.specs.Statements as statements
-use Rattle.stmt_sem.specs.Statements.{arm_of, flow_or_nothing}
+use Rattle.block_code.specs.Statements as statements
+use Rattle.block_code.specs.Statements.{arm_of, flow_or_nothing}
 use Rattle.stmt_sem.specs.declared.flows.Arm.{Arm}
 use Rattle.stmt_sem.specs.declared.flows.Code.TheVariants.{Labels}
 use Rattle.stmt_sem.specs.declared.flows.Flow.{Flow}

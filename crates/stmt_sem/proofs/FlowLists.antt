@@ -4,15 +4,15 @@ use Rattle.std.proofs.Common.{◌≡◌, ◌∙◌, ◌++◌, ◌∷◌, [], ℕ
 use Rattle.m2_base.specs.Lists.{Each}
 use Rattle.m2_base.specs.States.{Frame}
 use Rattle.expr_sem.specs.Fragments.{Grows}
-use Rattle.expr_sem.specs.Parts.{Part}
+use Rattle.block_code.specs.Parts.{Part}
 use Rattle.expr_sem.specs.declared.fragments.Node.{Node}
 use Rattle.std.specs.declared.vec.Vec.{Vec}
 use Rattle.std.specs.declared.alloc.Global.{Global}
 use Rattle.stmt_sem.specs.FlowTrees.{IsOver, arms_among, block_among, code_by, flow_in}
-use Rattle.stmt_sem.specs.Flows as flow
-use Rattle.stmt_sem.specs.Flows.{nothing, ◌⨾◌}
+use Rattle.block_code.specs.Flows as flow
+use Rattle.block_code.specs.Flows.{nothing, ◌⨾◌}
 use Rattle.stmt_sem.specs.Stated.{IsArm, arm_in, arms_in, block_in, onto}
-use Rattle.stmt_sem.specs.Statements.{arm_before}
+use Rattle.block_code.specs.Statements.{arm_before}
 use Rattle.stmt_sem.specs.declared.flows.Arm.{Arm}
 use Rattle.stmt_sem.specs.declared.flows.Flow.{Flow}
 use Rattle.stmt_sem.proofs.FlowsLater.{arm_later, code_later, flow_later, over_later}

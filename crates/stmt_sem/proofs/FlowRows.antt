@@ -6,9 +6,9 @@ use Rattle.std.specs.declared.vec.Vec.{Vec}
 use Rattle.m2_base.specs.Lists.{Each}
 use Rattle.expr_sem.specs.declared.fragments.Node.{Node}
 use Rattle.stmt_sem.specs.FlowTrees.{AreArmRowOver, AreRowOver, IsArmOver, IsFormOver, IsHeldOver, IsOver, IsOverIfAny, arm_row_in, arms_among, block_among, choice_among, code_by, form_in, held_in, other_among, row_in}
-use Rattle.stmt_sem.specs.Flows as flow
-use Rattle.stmt_sem.specs.Flows.{◌⨾◌}
-use Rattle.stmt_sem.specs.Statements.{arm_before, flow_or_nothing}
+use Rattle.block_code.specs.Flows as flow
+use Rattle.block_code.specs.Flows.{◌⨾◌}
+use Rattle.block_code.specs.Statements.{arm_before, flow_or_nothing}
 use Rattle.stmt_sem.specs.declared.flows.Arm.{Arm}
 use Rattle.stmt_sem.specs.declared.flows.Flow.{Flow}
 use Rattle.stmt_sem.specs.declared.flows.FlowForm.{Row_of-Arm, Row_of-Flow, back-FlowForm-Choice-1, end_of-Arm, end_of-Flow, items-the_row-Arm, items-the_row-Flow, items_hidden-the_row-Arm-1, items_hidden-the_row-Flow-0, more_of-Arm, more_of-Flow}

@@ -23,7 +23,7 @@ use Rattle.expr_sem.specs.Fragments.{AreSound, Grows}
 use Rattle.expr_sem.proofs.Sequencing.{Grows-refl, Grows-trans}
 use Rattle.stmt_sem.specs.FlowTrees.{CellFlow, MadeBy, flow_in}
 use Rattle.stmt_sem.specs.Flowings.{Flowing, IsFlow}
-use Rattle.stmt_sem.specs.Flows as flow
+use Rattle.block_code.specs.Flows as flow
 use Rattle.stmt_sem.specs.Stands.{IsStand}
 use Rattle.stmt_sem.specs.Stated.{answer_of}
 use Rattle.stmt_sem.specs.declared.flows.Flow.{Flow}

@@ -7,7 +7,7 @@ use Rattle.m2_base.specs.declared.memory.Memory.{Memory}
 use Rattle.m2_base.specs.Statics.Cells.{capped}
 use Rattle.code_form.specs.Heights.{Step}
 use Rattle.code_form.specs.declared.instr.Instr.TheVariants.{Jump, JumpFalse, OrJump}
-use Rattle.expr_sem.specs.Parts.{Made, Part, Spot, none, plain, plain_step, skip, steps_size, ◌⨟◌}
+use Rattle.block_code.specs.Parts.{Made, Part, Spot, none, plain, plain_step, skip, steps_size, ◌⨟◌}
 use Rattle.expr_sem.specs.Fragments.{step_view}
 use Rattle.expr_sem.specs.Pieces.{Appended, spot_of}
 use Rattle.expr_sem.specs.Stacks.{ends_as}
@@ -15,9 +15,9 @@ use Rattle.expr_sem.proofs.PieceParts.{append_then, ended}
 use Rattle.expr_sem.specs.declared.pieces.Piece.{Piece}
 use Rattle.expr_sem.specs.declared.pieces.With.{With}
 use Rattle.stmt_sem.specs.FlowPieces.{AppendedArm, Over, again_part}
-use Rattle.stmt_sem.specs.Flows.{Flow, HasSize, Run, choose, counted, for_ever, in_with, part_at, until_true, when, while_true, with_cell, ◌⨾◌}
-use Rattle.stmt_sem.specs.Statements.{arm_before, flow_or_nothing}
-use Rattle.stmt_sem.specs.Cases.{label_code, more_labels_code}
+use Rattle.block_code.specs.Flows.{Flow, HasSize, Run, choose, counted, for_ever, in_with, part_at, until_true, when, while_true, with_cell, ◌⨾◌}
+use Rattle.block_code.specs.Statements.{arm_before, flow_or_nothing}
+use Rattle.block_code.specs.Cases.{label_code, more_labels_code}
 use Rattle.expr_sem.specs.Fragments.{AreSound}
 use Rattle.expr_sem.specs.declared.fragments.Node.{Node}
 use Rattle.std.specs.declared.alloc.Global.{Global}

@@ -21,7 +21,7 @@ use Rattle.expr_sem.proofs.Onwards.{holds_after}
 use Rattle.expr_sem.proofs.Sequencing.{Grows-trans}
 use Rattle.stmt_sem.specs.FlowTrees.{flow_in}
 use Rattle.stmt_sem.specs.Flowings.{Flowing, IsFlow}
-use Rattle.stmt_sem.specs.Flows as flow
+use Rattle.block_code.specs.Flows as flow
 use Rattle.stmt_sem.specs.Stands.{IsStand}
 use Rattle.stmt_sem.specs.Taken.{StandsFor}
 use Rattle.stmt_sem.specs.declared.flows.Flow.{Flow}

@@ -3,13 +3,13 @@ use Rattle.std.proofs.Common.{◌≡◌, ◌∙◌, ◌∷◌, [], ℕ, List, Op
 use Rattle.std.proofs.Math.Path.{fun_ext}
 use Rattle.code_form.specs.declared.instr.Instr.TheVariants.{Load, Local, Store}
 use Rattle.expr_sem.specs.Fragments.{Grows, part}
-use Rattle.expr_sem.specs.Parts.{Part, plain, ◌⨟◌}
+use Rattle.block_code.specs.Parts.{Part, plain, ◌⨟◌}
 use Rattle.expr_sem.specs.declared.fragments.Node.{Node}
 use Rattle.expr_sem.proofs.Sequencing.{in_later, part_later}
 use Rattle.stmt_sem.specs.FlowTrees.{AreArmRowOver, AreRowOver, CellFlow, IsArmOver, IsCodeOf, IsFormOver, IsHeldOver, IsOver, Measures, arm_row_in, code_by, flow_in, form_in, held_in, row_in}
-use Rattle.stmt_sem.specs.Flows as flow
-use Rattle.stmt_sem.specs.Flows.{counted, for_ever, in_with, straight, until_true, while_true, with_cell, ◌⨾◌}
-use Rattle.stmt_sem.specs.Statements.{arm_before, flow_or_nothing}
+use Rattle.block_code.specs.Flows as flow
+use Rattle.block_code.specs.Flows.{counted, for_ever, in_with, straight, until_true, while_true, with_cell, ◌⨾◌}
+use Rattle.block_code.specs.Statements.{arm_before, flow_or_nothing}
 use Rattle.stmt_sem.specs.declared.flows.Arm.{Arm}
 use Rattle.stmt_sem.specs.declared.flows.Code.{Code}
 use Rattle.stmt_sem.specs.declared.flows.Code.TheVariants.{Compared, Fixed, Labels, Stored}

@@ -5,8 +5,8 @@ use Rattle.code_form.specs.Heights.{Step}
 use Rattle.m2_base.specs.declared.memory.Memory.{Memory}
 use Rattle.expr_sem.specs.declared.fragments.Node.{Node}
 use Rattle.stmt_sem.specs.FlowTrees.{CellFlow, MadeBy, block_among, flow_in}
-use Rattle.stmt_sem.specs.Flows as flow
-use Rattle.stmt_sem.specs.Flows.{nothing, ◌⨾◌}
+use Rattle.block_code.specs.Flows as flow
+use Rattle.block_code.specs.Flows.{nothing, ◌⨾◌}
 use Rattle.stmt_sem.specs.declared.flows.Flow.{Flow}
 
 -- nothing behind a flow

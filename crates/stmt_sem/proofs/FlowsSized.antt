@@ -11,19 +11,19 @@ use Rattle.expr_sem.specs.Fragments as parts
 use Rattle.expr_sem.specs.Fragments.{AreSound, part}
 use Rattle.std.specs.declared.alloc.Global.{Global}
 use Rattle.std.specs.declared.boxed.Box.{Box}
-use Rattle.expr_sem.specs.Parts.{Part, Spot, plain, plain_step, steps_size, ◌⨟◌}
-use Rattle.expr_sem.proofs.Pushing.{size_append, size_then}
+use Rattle.block_code.specs.Parts.{Part, Spot, plain, plain_step, steps_size, ◌⨟◌}
+use Rattle.block_code.proofs.Sizes.{size_append, size_then}
 use Rattle.expr_sem.specs.declared.fragments.Fragment.{Fragment}
 use Rattle.expr_sem.specs.declared.fragments.Fragment.TheVariants.{Nothing as NoFragment, Node as FragmentOf}
 use Rattle.expr_sem.specs.declared.fragments.Node.{Node}
-use Rattle.stmt_sem.specs.Cases.{label_by, label_code, labels_code, more_labels_code}
+use Rattle.block_code.specs.Cases.{label_by, label_code, labels_code, more_labels_code}
 use Rattle.case_labels.specs.Seen.{test_seen}
 use Rattle.stmt_sem.specs.FlowTrees.{IsArmOver, IsCodeOf, IsOver, Measures, MeasuresPart, arms_among, block_among, choice_among, code_by, flow_in, other_among}
 use Rattle.stmt_sem.specs.FlowPieces.{Over}
 use Rattle.stmt_sem.specs.FlowSizes.{arms_bytes, block_bytes, label_bytes, labels_bytes, somewhere}
-use Rattle.stmt_sem.specs.Flows as flow
-use Rattle.stmt_sem.specs.Flows.{HasSize, back, choose, counted, for_ever, nothing, straight, until_true, when, while_true, ◌⨾◌}
-use Rattle.stmt_sem.specs.Statements.{arm_before, flow_or_nothing}
+use Rattle.block_code.specs.Flows as flow
+use Rattle.block_code.specs.Flows.{HasSize, back, choose, counted, for_ever, nothing, straight, until_true, when, while_true, ◌⨾◌}
+use Rattle.block_code.specs.Statements.{arm_before, flow_or_nothing}
 use Rattle.stmt_sem.specs.declared.flows.Arm.{Arm}
 use Rattle.stmt_sem.specs.declared.flows.Code.{Code}
 use Rattle.stmt_sem.specs.declared.flows.Code.TheVariants.{Fixed, Stored, Compared, Labels}

@@ -20,19 +20,19 @@ use Rattle.m2_base.specs.declared.trees.expressions.Expr.{Expr}
 use Rattle.const_eval.specs.Analyses.{Analysed}
 use Rattle.const_eval.proofs.Analysing.{and_then_assoc}
 use Rattle.const_eval.proofs.ReadParts.{at_seen}
-use Rattle.expr_sem.specs.Parts.{Part, with_record}
-use Rattle.expr_sem.specs.RecordFields.{with_field, field_coded}
+use Rattle.block_code.specs.Parts.{Part, with_record}
+use Rattle.block_code.specs.RecordFields.{with_field, field_coded}
 use Rattle.expr_sem.specs.Selections.{with_number}
-use Rattle.expr_sem.specs.Coded.{Coded, in_error}
+use Rattle.block_code.specs.Coded.{Coded, in_error}
 use Rattle.expr_sem.specs.Codings.{Coding}
 use Rattle.expr_sem.specs.declared.fragments.Node.{Node}
 use Rattle.expr_sem.proofs.Operating.{coding_after, described, of_analysed}
 use Rattle.expr_sem.proofs.Selecting.{with_field_numbered}
-use Rattle.stmt_sem.specs.Counting.{by_constant, controls, for_more, for_test, has_code, or_one}
-use Rattle.stmt_sem.specs.Flows.{Flow, counted}
+use Rattle.block_code.specs.Counting.{by_constant, controls, for_more, for_test, has_code, or_one}
+use Rattle.block_code.specs.Flows.{Flow, counted}
 use Rattle.stmt_sem.specs.Plain.{IsStep, itself}
 use Rattle.stmt_sem.specs.Stands.{stand_in}
-use Rattle.stmt_sem.specs.Statements.{by_of}
+use Rattle.block_code.specs.Statements.{by_of}
 use Rattle.stmt_sem.specs.declared.stands.Stand.{Stand}
 
 some_mapped : {A B : Type 0} (f : A → B) (o : Option A) → is_some o ≡ is_some (option_map f o)

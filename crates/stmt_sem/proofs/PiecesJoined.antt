@@ -5,12 +5,12 @@ use Rattle.code_form.specs.Heights.{Step}
 use Rattle.m2_base.specs.Copies.{copy_view}
 use Rattle.m2_base.specs.declared.copies.ParamCopy.{ParamCopy}
 use Rattle.expr_sem.specs.Fragments.{step_view}
-use Rattle.expr_sem.specs.Parts.{Made, Part, Spot, none}
+use Rattle.block_code.specs.Parts.{Made, Part, Spot, none}
 use Rattle.expr_sem.specs.Pieces.{Appended, IsAsBefore, extend, spot_of}
 use Rattle.expr_sem.specs.Stacks.{ends_as}
 use Rattle.expr_sem.specs.declared.pieces.Piece.{Piece}
 use Rattle.expr_sem.proofs.PieceParts.{ended}
-use Rattle.stmt_sem.specs.BlockCode.{copy_code, prologue}
+use Rattle.block_code.specs.BlockCode.{copy_code, prologue}
 use Rattle.stmt_sem.specs.Stating.{made_in, spot_at}
 
 -- what a piece has once this part is appended

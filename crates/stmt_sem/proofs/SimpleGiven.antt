@@ -15,17 +15,17 @@ use Rattle.m2_base.specs.declared.replies.Ask.TheVariants.{Known}
 use Rattle.m2_base.specs.declared.sites.Site.{Site}
 use Rattle.m2_base.proofs.Kept.{Adds-refl, IsPrefixOf-refl, Works-notes, Works-refl}
 use Rattle.const_eval.proofs.Analysing.{and_then_assoc}
-use Rattle.expr_sem.specs.Expressions.{call_alone}
+use Rattle.block_code.specs.Expressions.{call_alone}
 use Rattle.expr_sem.specs.Fragments.{IsMade}
-use Rattle.expr_sem.specs.Parts.{Part}
-use Rattle.stmt_sem.specs.Assignments.{code_unless_bad}
+use Rattle.block_code.specs.Parts.{Part}
+use Rattle.block_code.specs.Assignments.{code_unless_bad}
 use Rattle.expr_sem.specs.declared.fragments.Node.{Node}
 use Rattle.expr_sem.proofs.Sequencing.{Grows-refl}
 use Rattle.stmt_sem.specs.FlowTrees.{IsFlowOf, flow_in}
 use Rattle.stmt_sem.specs.Flowings.{Flowing, IsFlow}
-use Rattle.stmt_sem.specs.Flows.{nothing, straight}
+use Rattle.block_code.specs.Flows.{nothing, straight}
 use Rattle.stmt_sem.specs.StatementParts.{called, form_of}
-use Rattle.stmt_sem.specs.Statements.{Stand}
+use Rattle.block_code.specs.Statements.{Stand}
 use Rattle.stmt_sem.specs.declared.flows.Flow.{Flow}
 
 -- ---- what they make of their code

@@ -5,9 +5,9 @@ use Rattle.m2_base.specs.Trees.{CaseArm, IfArm, Statement, Statements, case_arms
 use Rattle.m2_base.specs.declared.rows.Place.{Place}
 use Rattle.const_eval.proofs.Analysing.{and_then_assoc}
 use Rattle.const_eval.proofs.Folding.{and_then_gives, and_then_same, folded}
-use Rattle.stmt_sem.specs.Flows.{Flow, nothing, ◌⨾◌}
+use Rattle.block_code.specs.Flows.{Flow, nothing, ◌⨾◌}
 use Rattle.stmt_sem.specs.StatementParts.{otherwise, statements_onto}
-use Rattle.stmt_sem.specs.Statements.{Arm, Stand, arm_flow, arms_flow, case_flow, cases_flow, else_of, flow_of, flow_or_nothing, statement_flow}
+use Rattle.block_code.specs.Statements.{Arm, Stand, arm_flow, arms_flow, case_flow, cases_flow, else_of, flow_of, flow_or_nothing, statement_flow}
 
 -- a statement behind those before it
 abbrev pub behind_flow : (Flow → Flow) → Flow → Flow → Flow

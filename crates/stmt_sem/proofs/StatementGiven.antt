@@ -18,22 +18,22 @@ use Rattle.m2_base.proofs.Seen.{statement_seen}
 use Rattle.const_eval.proofs.Analysing.{and_then_assoc}
 use Rattle.const_eval.proofs.Folding.{and_then_same}
 use Rattle.code_form.specs.declared.instr.Instr.TheVariants.{Local, Store}
-use Rattle.expr_sem.specs.Coded.{Coded}
+use Rattle.block_code.specs.Coded.{Coded}
 use Rattle.expr_sem.specs.Fragments.{Grows, IsIn, part}
 use Rattle.expr_sem.specs.declared.fragments.Node.{Node}
 use Rattle.expr_sem.proofs.Sequencing.{in_later, part_later}
 use Rattle.std.specs.declared.boxed.Box.{Box}
-use Rattle.expr_sem.specs.Parts.{Part, none, plain, ◌⨟◌}
+use Rattle.block_code.specs.Parts.{Part, none, plain, ◌⨟◌}
 use Rattle.expr_sem.specs.declared.fragments.Fragment.{Fragment}
-use Rattle.stmt_sem.specs.Cases.{selector_type, selector_value}
-use Rattle.stmt_sem.specs.Counting.{bound_value, control_variable, or_one}
+use Rattle.block_code.specs.Cases.{selector_type, selector_value}
+use Rattle.block_code.specs.Counting.{bound_value, control_variable, or_one}
 use Rattle.stmt_sem.specs.FlowTrees.{IsOver, arms_or, choice_among, flow_in}
-use Rattle.stmt_sem.specs.Flows as flow
-use Rattle.stmt_sem.specs.Flows.{for_ever, in_with, nothing, straight, until_true, while_true, with_cell, ◌⨾◌}
+use Rattle.block_code.specs.Flows as flow
+use Rattle.block_code.specs.Flows.{for_ever, in_with, nothing, straight, until_true, while_true, with_cell, ◌⨾◌}
 use Rattle.stmt_sem.specs.Stated.{IsArm, arm_in, arms_in, cases_in, other_in}
 use Rattle.stmt_sem.specs.StatementParts.{case_of, form_of, otherwise, record_of, selector, stored_before, typed_selector, with_body}
-use Rattle.stmt_sem.specs.Statements.{Stand, arm_before, arms_flow, by_of, else_of, flow_of, flow_or_nothing, for_flow, form_flow, statement_flow, value_at, variable}
-use Rattle.stmt_sem.specs.Withs.{record_variable}
+use Rattle.block_code.specs.Statements.{Stand, arm_before, arms_flow, by_of, else_of, flow_of, flow_or_nothing, for_flow, form_flow, statement_flow, value_at, variable}
+use Rattle.block_code.specs.Withs.{record_variable}
 use Rattle.stmt_sem.specs.declared.flows.Arm.{Arm}
 use Rattle.stmt_sem.specs.declared.flows.Code.TheVariants.{Fixed}
 use Rattle.stmt_sem.specs.declared.flows.Flow.{Flow}

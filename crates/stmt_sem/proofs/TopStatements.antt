@@ -20,15 +20,15 @@ use Rattle.m2_base.specs.declared.trees.statements.Statement.{Statement as State
 use Rattle.m2_base.proofs.Kept.{Works-refl}
 use Rattle.type_rules.specs.Scenes.{Hand, scene_of}
 use Rattle.type_rules.specs.Sites.{AreOfItem, AreOfSite, context_of, source_of}
-use Rattle.stmt_sem.specs.BlockCode.{in_statements}
+use Rattle.block_code.specs.BlockCode.{in_statements}
 use Rattle.expr_sem.specs.declared.fragments.Node.{Node}
 use Rattle.expr_sem.proofs.Sequencing.{Grows-refl}
 use Rattle.stmt_sem.specs.FlowTrees.{flow_in}
 use Rattle.stmt_sem.specs.Flowings.{Flowing, IsFlow}
-use Rattle.stmt_sem.specs.Flows as flow
+use Rattle.block_code.specs.Flows as flow
 use Rattle.m2_base.specs.Statics.ReadStatements.{AreReadStatements, IsReadStatement}
 use Rattle.stmt_sem.specs.Stands.{at_first}
-use Rattle.stmt_sem.specs.Statements.{statement_flow}
+use Rattle.block_code.specs.Statements.{statement_flow}
 use Rattle.stmt_sem.specs.Stating.{statement_at}
 use Rattle.stmt_sem.specs.declared.flows.Flow.{Flow}
 

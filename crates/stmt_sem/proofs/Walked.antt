@@ -20,7 +20,7 @@ use Rattle.expr_sem.specs.declared.pieces.With.{With}
 use Rattle.m2_base.proofs.Kept.{Works-refl}
 use Rattle.stmt_sem.specs.FlowTrees.{IsOver, arms_among}
 use Rattle.stmt_sem.specs.Flowings.{Flowing}
-use Rattle.stmt_sem.specs.Flows as flow
+use Rattle.block_code.specs.Flows as flow
 use Rattle.stmt_sem.specs.Stated.{IsArm, arms_in, block_in, onto}
 use Rattle.stmt_sem.specs.declared.flows.Arm.{Arm}
 use Rattle.stmt_sem.specs.declared.flows.Flow.{Flow}

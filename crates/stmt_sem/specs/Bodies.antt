@@ -19,15 +19,15 @@ use Rattle.code_form.specs.Heights.{Step}
 use Rattle.type_rules.specs.Scenes.{WhereTold}
 use Rattle.type_rules.specs.Sites.{context_of}
 use Rattle.expr_sem.specs.Fragments.{step_view}
-use Rattle.expr_sem.specs.Parts.{Made}
+use Rattle.block_code.specs.Parts.{Made}
 use Rattle.expr_sem.specs.declared.fragments.Node.{Node}
 use Rattle.expr_sem.specs.Pieces.{extend}
 use Rattle.expr_sem.specs.declared.pieces.Piece.{Piece}
-use Rattle.stmt_sem.specs.BlockCode.{body_of, ending, first_spot, in_statements, prologue, run_of, size_diags}
-use Rattle.stmt_sem.specs.BlockCode.{stand_of}
+use Rattle.block_code.specs.BlockCode.{body_of, ending, first_spot, in_statements, prologue, run_of, size_diags}
+use Rattle.block_code.specs.BlockCode.{stand_of}
 use Rattle.stmt_sem.specs.FlowTrees.{flow_in}
-use Rattle.stmt_sem.specs.Flows.{Flow, Run, part_at, straight, ◌⨾◌}
-use Rattle.stmt_sem.specs.Statements.{flow_of}
+use Rattle.block_code.specs.Flows.{Flow, Run, part_at, straight, ◌⨾◌}
+use Rattle.block_code.specs.Statements.{flow_of}
 use Rattle.stmt_sem.specs.Stating.{block_at, given_at, statement_at}
 use Rattle.stmt_sem.specs.declared.flows.Flow.{Flow as FlowOf}
 use Rattle.stmt_sem.specs.declared.top_statements.Stated.{Stated}

@@ -1,12 +1,12 @@
 -- What a piece has once an arm, or a part of a choice, is appended.
 use Rattle.std.specs.Prelude.{◌≡◌, ℕ, ◌+◌, pos, negsuc, List, [], ◌∷◌, Option, Some, None}
 use Rattle.code_form.specs.declared.instr.Instr.TheVariants.{Jump, JumpFalse}
-use Rattle.expr_sem.specs.Parts.{Part, plain, ◌⨟◌}
+use Rattle.block_code.specs.Parts.{Part, plain, ◌⨟◌}
 use Rattle.expr_sem.specs.Stacks.{ends_as}
 use Rattle.expr_sem.specs.declared.pieces.Piece.{Piece}
 use Rattle.expr_sem.specs.declared.pieces.With.{With}
-use Rattle.stmt_sem.specs.Flows.{Flow, HasSize, part_at}
-use Rattle.stmt_sem.specs.Statements.{arm_before, flow_or_nothing}
+use Rattle.block_code.specs.Flows.{Flow, HasSize, part_at}
+use Rattle.block_code.specs.Statements.{arm_before, flow_or_nothing}
 
 -- so many bytes, where a jump before them is counted too; none where nothing follows
 abbrev pub Over : Option Flow → ℕ → Type 0

@@ -1,13 +1,13 @@
 -- How many bytes of code tests of labels, blocks and arms have, entry by entry.
 use Rattle.std.specs.Prelude.{ℕ, ◌+◌, List, [], ◌∷◌}
-use Rattle.expr_sem.specs.Parts.{Spot, steps_size}
+use Rattle.block_code.specs.Parts.{Spot, steps_size}
 use Rattle.expr_sem.specs.Fragments.{part}
 use Rattle.expr_sem.specs.declared.fragments.Fragment.{Fragment}
 use Rattle.expr_sem.specs.declared.fragments.Node.{Node}
-use Rattle.stmt_sem.specs.Cases.{label_code}
+use Rattle.block_code.specs.Cases.{label_code}
 use Rattle.case_labels.specs.Seen.{test_seen}
 use Rattle.stmt_sem.specs.FlowTrees.{code_by}
-use Rattle.stmt_sem.specs.Flows.{jump_size}
+use Rattle.block_code.specs.Flows.{jump_size}
 use Rattle.stmt_sem.specs.declared.flows.Arm.{Arm}
 use Rattle.stmt_sem.specs.declared.flows.Code.{Code}
 use Rattle.stmt_sem.specs.declared.flows.Flow.{Flow}

@@ -7,13 +7,13 @@ use Rattle.std.specs.declared.boxed.Box.{Box}
 use Rattle.m2_base.specs.declared.memory.Memory.{Memory}
 use Rattle.code_form.specs.declared.instr.Instr.TheVariants.{Load, Local, Store}
 use Rattle.expr_sem.specs.Fragments.{IsIn, part}
-use Rattle.expr_sem.specs.Parts.{Part, Spot, plain, steps_size, ◌⨟◌}
+use Rattle.block_code.specs.Parts.{Part, Spot, plain, steps_size, ◌⨟◌}
 use Rattle.expr_sem.specs.declared.fragments.Node.{Node}
-use Rattle.stmt_sem.specs.Cases.{labels_code}
-use Rattle.stmt_sem.specs.Flows as flow
-use Rattle.stmt_sem.specs.Flows.{counted, exit, for_ever, in_with, nothing, straight, until_true, while_true}
-use Rattle.stmt_sem.specs.Flows.{with_cell, ◌⨾◌}
-use Rattle.stmt_sem.specs.Statements.{arm_before, flow_or_nothing}
+use Rattle.block_code.specs.Cases.{labels_code}
+use Rattle.block_code.specs.Flows as flow
+use Rattle.block_code.specs.Flows.{counted, exit, for_ever, in_with, nothing, straight, until_true, while_true}
+use Rattle.block_code.specs.Flows.{with_cell, ◌⨾◌}
+use Rattle.block_code.specs.Statements.{arm_before, flow_or_nothing}
 use Rattle.stmt_sem.specs.declared.flows.Arm.{Arm}
 use Rattle.stmt_sem.specs.declared.flows.Code.{Code}
 use Rattle.stmt_sem.specs.declared.flows.Code.TheVariants.{Fixed, Stored, Compared, Labels}

@@ -8,7 +8,7 @@ use Rattle.m2_base.specs.declared.rows.Place.{Place}
 use Rattle.type_rules.specs.Scenes.{IsThere}
 use Rattle.type_rules.specs.Sites.{SuitsSite}
 use Rattle.expr_sem.specs.Codings.{with_types}
-use Rattle.stmt_sem.specs.Statements as statements
+use Rattle.block_code.specs.Statements as statements
 use Rattle.stmt_sem.specs.declared.stands.Stand.{Stand}
 
 -- the same stand in this context

@@ -10,10 +10,10 @@ use Rattle.std.specs.declared.alloc.Global.{Global}
 use Rattle.std.specs.declared.boxed.Box.{Box}
 use Rattle.expr_sem.specs.declared.fragments.Node.{Node}
 use Rattle.stmt_sem.specs.FlowTrees.{IsArmOver, IsOver, IsOverIfAny, arms_among, code_by, flow_in, other_among}
-use Rattle.stmt_sem.specs.Flows as flow
-use Rattle.stmt_sem.specs.Flows.{◌⨾◌}
-use Rattle.stmt_sem.specs.Statements as statements
-use Rattle.stmt_sem.specs.Statements.{arm_before, flow_or_nothing}
+use Rattle.block_code.specs.Flows as flow
+use Rattle.block_code.specs.Flows.{◌⨾◌}
+use Rattle.block_code.specs.Statements as statements
+use Rattle.block_code.specs.Statements.{arm_before, flow_or_nothing}
 use Rattle.stmt_sem.specs.declared.flows.Arm.{Arm}
 use Rattle.stmt_sem.specs.declared.flows.Flow.{Flow}
 use Rattle.stmt_sem.specs.declared.statements.OneCase.{OneCase}

@@ -5,15 +5,15 @@ use Rattle.m2_base.specs.declared.rows.Place.{Place}
 use Rattle.m2_base.specs.Trees.{CaseArms, CaseElse, Designator, Expr, Exprs, Statements, StmtForm, designator_at}
 use Rattle.m2_base.specs.Trees.{expr_at, more_statements, no_statements}
 use Rattle.code_form.specs.declared.instr.Instr.TheVariants.{Local, Store}
-use Rattle.expr_sem.specs.Coded.{Coded}
-use Rattle.expr_sem.specs.Expressions.{call_alone}
-use Rattle.expr_sem.specs.Parts.{Part, plain, ◌⨟◌}
-use Rattle.stmt_sem.specs.Assignments.{code_unless_bad}
-use Rattle.stmt_sem.specs.Cases.{selector_type, selector_value}
-use Rattle.stmt_sem.specs.Flows.{Flow, straight, with_cell, ◌⨾◌}
-use Rattle.stmt_sem.specs.Statements.{Stand, cases_flow, else_flow, else_of, flow_of, form_flow, statement_flow}
-use Rattle.stmt_sem.specs.Statements.{value_at, variable, within}
-use Rattle.stmt_sem.specs.Withs.{in_with_of, record_variable, with_code}
+use Rattle.block_code.specs.Coded.{Coded}
+use Rattle.block_code.specs.Expressions.{call_alone}
+use Rattle.block_code.specs.Parts.{Part, plain, ◌⨟◌}
+use Rattle.block_code.specs.Assignments.{code_unless_bad}
+use Rattle.block_code.specs.Cases.{selector_type, selector_value}
+use Rattle.block_code.specs.Flows.{Flow, straight, with_cell, ◌⨾◌}
+use Rattle.block_code.specs.Statements.{Stand, cases_flow, else_flow, else_of, flow_of, form_flow, statement_flow}
+use Rattle.block_code.specs.Statements.{value_at, variable, within}
+use Rattle.block_code.specs.Withs.{in_with_of, record_variable, with_code}
 
 -- what a form of statement makes of whose first token nothing depends
 abbrev pub form_of : Stand → StmtForm → Gives Flow

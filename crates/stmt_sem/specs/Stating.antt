@@ -10,11 +10,11 @@ use Rattle.m2_base.specs.declared.sites.Site.{Site}
 use Rattle.type_rules.specs.Scenes.{WhereTold}
 use Rattle.type_rules.specs.Sites.{context_of}
 use Rattle.expr_sem.specs.Fragments.{step_view}
-use Rattle.expr_sem.specs.Parts.{Made, Spot}
+use Rattle.block_code.specs.Parts.{Made, Spot}
 use Rattle.expr_sem.specs.declared.pieces.Piece.{Piece}
-use Rattle.stmt_sem.specs.BlockCode.{result_by, stand_of}
-use Rattle.stmt_sem.specs.Flows.{Flow}
-use Rattle.stmt_sem.specs.Statements.{statement_flow}
+use Rattle.block_code.specs.BlockCode.{result_by, stand_of}
+use Rattle.block_code.specs.Flows.{Flow}
+use Rattle.block_code.specs.Statements.{statement_flow}
 
 -- the block of these statements, where they stand
 abbrev pub block_at : Context → Stream → BlockTree

@@ -6,10 +6,10 @@ use Rattle.m2_base.specs.declared.sites.Site.{Site}
 use Rattle.type_rules.specs.Scenes.{IsThere, WhereTold}
 use Rattle.type_rules.specs.Sites.{AreOfSite}
 use Rattle.expr_sem.specs.Fragments.{IsIn, part}
-use Rattle.expr_sem.specs.Parts.{Part}
+use Rattle.block_code.specs.Parts.{Part}
 use Rattle.expr_sem.specs.declared.fragments.Node.{Node}
 use Rattle.stmt_sem.specs.FlowTrees.{IsCodeOf, flow_in}
-use Rattle.stmt_sem.specs.Flows as flow
+use Rattle.block_code.specs.Flows as flow
 use Rattle.stmt_sem.specs.declared.cases.Selected.{Selected}
 use Rattle.stmt_sem.specs.declared.flows.Code.{Code}
 use Rattle.stmt_sem.specs.declared.flows.Flow.{Flow}

@@ -8,7 +8,7 @@ use Rattle.expr_sem.specs.Codings.{Coding}
 use Rattle.expr_sem.specs.declared.fragments.Node.{Node}
 use Rattle.stmt_sem.specs.Flowings.{Flowing}
 use Rattle.stmt_sem.specs.Stands.{stand_in}
-use Rattle.stmt_sem.specs.Statements as statements
+use Rattle.block_code.specs.Statements as statements
 use Rattle.stmt_sem.specs.declared.stands.Stand.{Stand}
 use Rattle.stmt_sem.specs.declared.walker.Walker.{Walker}
 

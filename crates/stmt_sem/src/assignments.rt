@@ -3,15 +3,15 @@ ghost use Rattle.std.specs.Prelude.{◌≡◌, ◌+◌, ◌<◌, ◌^◌, ◌∷
 ghost use Rattle.m2_base.specs.Gives.{gives};
 ghost use Rattle.m2_base.specs.Statics.Operands.{operand_type as spec_type};
 ghost use Rattle.m2_base.specs.declared.notes.Notes.{Notes as NotesOf};
-ghost use Rattle.expr_sem.specs.Coded.{characters as spec_characters};
+ghost use Rattle.block_code.specs.Coded.{characters as spec_characters};
 ghost use Rattle.expr_sem.specs.Codings.{Coding, IsCoded, IsFragment, coded_in};
 ghost use Rattle.expr_sem.specs.Fragments.{IsIn, IsMade, part};
-ghost use Rattle.expr_sem.specs.Parts.{plain, ◌⨟◌};
+ghost use Rattle.block_code.specs.Parts.{plain, ◌⨟◌};
 ghost use Rattle.expr_sem.specs.declared.fragments.Node.{Node};
 ghost use Rattle.type_rules.specs.Sites.{SuitsSite};
-ghost use Rattle.stmt_sem.specs.Assignments.{assignment as spec_assignment, code_unless_bad as spec_unless_bad};
-ghost use Rattle.stmt_sem.specs.Assignments.{store_code as spec_store, store_text as spec_store_text};
-ghost use Rattle.stmt_sem.specs.Assignments.{store_value as spec_store_value};
+ghost use Rattle.block_code.specs.Assignments.{assignment as spec_assignment, code_unless_bad as spec_unless_bad};
+ghost use Rattle.block_code.specs.Assignments.{store_code as spec_store, store_text as spec_store_text};
+ghost use Rattle.block_code.specs.Assignments.{store_value as spec_store_value};
 ghost use Rattle.stmt_sem.specs.Stands.{IsStand};
 ghost use Rattle.stmt_sem.specs.Walkers.{Codes, Keeps, frame_of, nodes_of};
 

@@ -2,10 +2,10 @@
 ghost use Rattle.std.specs.Prelude.{◌≡◌, [], IfOk, OnOk, map, option_map};
 ghost use Rattle.m2_base.specs.Views.{heading_view};
 ghost use Rattle.m2_base.specs.Copies.{copy_view};
-ghost use Rattle.expr_sem.specs.Parts.{none};
+ghost use Rattle.block_code.specs.Parts.{none};
 ghost use Rattle.expr_sem.specs.Pieces.{Appended};
-ghost use Rattle.stmt_sem.specs.BlockCode.{copy_code, ending as spec_ending, first_cell as spec_cell};
-ghost use Rattle.stmt_sem.specs.BlockCode.{prologue as spec_prologue};
+ghost use Rattle.block_code.specs.BlockCode.{copy_code, ending as spec_ending, first_cell as spec_cell};
+ghost use Rattle.block_code.specs.BlockCode.{prologue as spec_prologue};
 ghost use Rattle.stmt_sem.specs.Stating.{made_in, spot_at};
 
 use crate::procedure_codes::results_of;

@@ -14,10 +14,10 @@ ghost use Rattle.type_rules.specs.Scenes.{IsThere};
 ghost use Rattle.type_rules.specs.Sites.{SuitsSite};
 ghost use Rattle.expr_sem.specs.Fragments.{AreSound};
 ghost use Rattle.expr_sem.specs.Pieces.{Appended, IsAsBefore};
-ghost use Rattle.stmt_sem.specs.BlockCode.{size_by, size_diags};
+ghost use Rattle.block_code.specs.BlockCode.{size_by, size_diags};
 ghost use Rattle.stmt_sem.specs.Bodies.{Adding, IsBuilt, IsWhole};
 ghost use Rattle.stmt_sem.specs.FlowTrees.{IsOver, flow_in};
-ghost use Rattle.stmt_sem.specs.Flows.{Run, part_at};
+ghost use Rattle.block_code.specs.Flows.{Run, part_at};
 ghost use Rattle.stmt_sem.specs.Stating.{Returns};
 
 use crate::block_pieces::{append_ending, begun};

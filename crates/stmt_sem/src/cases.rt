@@ -7,7 +7,7 @@ ghost use Rattle.expr_sem.specs.Codings.{Coding, IsCoded, IsFragment, coded_in};
 ghost use Rattle.expr_sem.specs.Fragments.{part};
 ghost use Rattle.expr_sem.specs.declared.fragments.Node.{Node};
 ghost use Rattle.type_rules.specs.Sites.{SuitsSite};
-ghost use Rattle.stmt_sem.specs.Cases.{selector_type as spec_type, selector_value as spec_value};
+ghost use Rattle.block_code.specs.Cases.{selector_type as spec_type, selector_value as spec_value};
 ghost use Rattle.stmt_sem.specs.Plain.{IsType, itself};
 
 use crate::refusals::noted;

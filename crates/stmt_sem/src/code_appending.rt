@@ -1,11 +1,11 @@
 //! The code that a statement has of its own, appended to a piece.
 ghost use Rattle.std.specs.Prelude.{◌≡◌, ◌+◌, ◌∷◌, [], List, IfOk, OnOk, map, negsuc, pos};
 ghost use Rattle.expr_sem.specs.Fragments.{AreSound};
-ghost use Rattle.expr_sem.specs.Parts.{plain};
+ghost use Rattle.block_code.specs.Parts.{plain};
 ghost use Rattle.expr_sem.specs.Pieces.{Appended, Begins};
 ghost use Rattle.expr_sem.specs.declared.pieces.With.{With as OpenWith};
 ghost use Rattle.code_form.specs.declared.instr.Instr.TheVariants.{Load, Local, Push};
-ghost use Rattle.stmt_sem.specs.Cases.{label_code, labels_code};
+ghost use Rattle.block_code.specs.Cases.{label_code, labels_code};
 ghost use Rattle.case_labels.specs.Seen.{test_seen};
 ghost use Rattle.stmt_sem.specs.FlowTrees.{IsCodeOf, code_by};
 

@@ -6,10 +6,10 @@ ghost use Rattle.m2_base.specs.Trees.{exprs};
 ghost use Rattle.m2_base.specs.Views.{designator_view, expr_view};
 ghost use Rattle.type_rules.specs.Scenes.{IsThere};
 ghost use Rattle.expr_sem.specs.Codings.{IsCoded, coded_in};
-ghost use Rattle.expr_sem.specs.Expressions.{call_alone as spec_alone, designated as spec_designated};
-ghost use Rattle.expr_sem.specs.Values.{assigned_to as spec_assigned};
+ghost use Rattle.block_code.specs.Expressions.{call_alone as spec_alone, designated as spec_designated};
+ghost use Rattle.block_code.specs.Values.{assigned_to as spec_assigned};
 ghost use Rattle.stmt_sem.specs.Stands.{IsStand, names_of};
-ghost use Rattle.stmt_sem.specs.Statements.{value_at};
+ghost use Rattle.block_code.specs.Statements.{value_at};
 ghost use Rattle.stmt_sem.specs.Walkers.{Codes, Keeps, frame_of, nodes_of};
 
 use crate::stands::Stand;

@@ -7,7 +7,7 @@ ghost use Rattle.expr_sem.specs.declared.fragments.Node.{Node};
 ghost use Rattle.type_rules.specs.Asks.{Reads, WhereKnown, WhereWaiting};
 ghost use Rattle.type_rules.specs.Scenes.{IsRowOf, Suits, WhereTold, scene_of};
 ghost use Rattle.type_rules.specs.Sites.{SuitsSite};
-ghost use Rattle.stmt_sem.specs.Counting.{can_control as spec_can, control_variable as spec_variable, controls_by};
+ghost use Rattle.block_code.specs.Counting.{can_control as spec_can, control_variable as spec_variable, controls_by};
 ghost use Rattle.stmt_sem.specs.Stands.{IsStand};
 ghost use Rattle.stmt_sem.specs.Walkers.{Codes, Keeps, frame_of, nodes_of};
 

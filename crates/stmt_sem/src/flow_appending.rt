@@ -10,10 +10,10 @@ ghost use Rattle.stmt_sem.specs.FlowTrees.{block_among, choice_among, code_by, f
 ghost use Rattle.stmt_sem.specs.FlowTrees.{turns_in};
 ghost use Rattle.stmt_sem.specs.FlowPieces.{AppendedArm, AppendedBefore, again_part};
 ghost use Rattle.stmt_sem.specs.FlowSizes.{code_bytes, fragment_bytes};
-ghost use Rattle.stmt_sem.specs.Flows.{for_ever as spec_for_ever, in_with as spec_in_with, part_at};
-ghost use Rattle.stmt_sem.specs.Flows.{until_true as spec_until_true, while_true as spec_while_true};
-ghost use Rattle.stmt_sem.specs.Flows.{with_cell as spec_with_cell};
-ghost use Rattle.stmt_sem.specs.Statements.{flow_or_nothing};
+ghost use Rattle.block_code.specs.Flows.{for_ever as spec_for_ever, in_with as spec_in_with, part_at};
+ghost use Rattle.block_code.specs.Flows.{until_true as spec_until_true, while_true as spec_while_true};
+ghost use Rattle.block_code.specs.Flows.{with_cell as spec_with_cell};
+ghost use Rattle.block_code.specs.Statements.{flow_or_nothing};
 
 use crate::code_appending::{append_code, backward, forward};
 use crate::flow_sizes::{arms_size, block_size, jump_size, other_size, sum};

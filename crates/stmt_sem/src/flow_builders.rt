@@ -5,10 +5,10 @@ ghost use Rattle.expr_sem.specs.Fragments.{AreSound, IsIn, part};
 ghost use Rattle.expr_sem.specs.declared.fragments.Node.{Node};
 ghost use Rattle.stmt_sem.specs.FlowTrees.{IsArmOver, IsCodeOf, IsOverIfAny, IsOver, IsTurnsOver, MadeBy, IsFlowOf};
 ghost use Rattle.stmt_sem.specs.FlowTrees.{block_among, choice_among, code_by, flow_in, turns_in};
-ghost use Rattle.stmt_sem.specs.Flows.{exit as spec_exit, for_ever as spec_for_ever, in_with as spec_in_with};
-ghost use Rattle.stmt_sem.specs.Flows.{nothing as spec_nothing, straight as spec_straight};
-ghost use Rattle.stmt_sem.specs.Flows.{until_true as spec_until_true, while_true as spec_while_true};
-ghost use Rattle.stmt_sem.specs.Flows.{with_cell as spec_with_cell};
+ghost use Rattle.block_code.specs.Flows.{exit as spec_exit, for_ever as spec_for_ever, in_with as spec_in_with};
+ghost use Rattle.block_code.specs.Flows.{nothing as spec_nothing, straight as spec_straight};
+ghost use Rattle.block_code.specs.Flows.{until_true as spec_until_true, while_true as spec_while_true};
+ghost use Rattle.block_code.specs.Flows.{with_cell as spec_with_cell};
 
 use crate::flow_sizes::{arms_size, block_size, jump_size, other_size, sum};
 use crate::flows::{Arm, Code, Flow, FlowForm, Turns};

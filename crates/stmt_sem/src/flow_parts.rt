@@ -5,8 +5,8 @@ ghost use Rattle.expr_sem.specs.Codings.{with_types};
 ghost use Rattle.expr_sem.specs.Fragments.{AreSound, IsIn, part};
 ghost use Rattle.expr_sem.specs.declared.fragments.Node.{Node};
 ghost use Rattle.stmt_sem.specs.FlowTrees.{IsArmOver, IsCodeOf, IsOver, MadeBy, arms_or, code_by, flow_in};
-ghost use Rattle.stmt_sem.specs.Flows.{in_with as spec_in_with, straight as spec_straight};
-ghost use Rattle.stmt_sem.specs.Flows.{with_cell as spec_with_cell, ◌⨾◌};
+ghost use Rattle.block_code.specs.Flows.{in_with as spec_in_with, straight as spec_straight};
+ghost use Rattle.block_code.specs.Flows.{with_cell as spec_with_cell, ◌⨾◌};
 ghost use Rattle.stmt_sem.specs.Stated.{answer_of};
 ghost use Rattle.stmt_sem.specs.StatementParts.{stored_before as spec_stored};
 

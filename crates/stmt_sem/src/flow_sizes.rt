@@ -1,7 +1,7 @@
 //! The length of a flow's code: it depends neither on where the code stands nor on the temporary cell.
 ghost use Rattle.std.specs.Prelude.{◌≡◌, ℕ, ◌+◌, List, IfOk, map, pos};
 ghost use Rattle.m2_base.specs.Lists.{Each};
-ghost use Rattle.stmt_sem.specs.Cases.{label_code, labels_code};
+ghost use Rattle.block_code.specs.Cases.{label_code, labels_code};
 ghost use Rattle.case_labels.specs.Seen.{test_seen};
 ghost use Rattle.code_form.specs.Bytes.{size};
 ghost use Rattle.code_form.specs.declared.instr.Instr.TheVariants.{Load, Local, Push};
@@ -11,7 +11,7 @@ ghost use Rattle.stmt_sem.specs.FlowTrees.{IsArmOver, IsCodeOf, IsOverIfAny, IsT
 ghost use Rattle.stmt_sem.specs.FlowTrees.{code_by, other_among, turns_in};
 ghost use Rattle.stmt_sem.specs.FlowPieces.{Over};
 ghost use Rattle.stmt_sem.specs.FlowSizes.{arm_bytes, arms_bytes, block_bytes, label_bytes};
-ghost use Rattle.stmt_sem.specs.Flows.{jump_size as spec_jump_size};
+ghost use Rattle.block_code.specs.Flows.{jump_size as spec_jump_size};
 
 use crate::flows::{Arm, Code, Flow, Turns};
 use case_labels::LabelTest;

@@ -1,10 +1,9 @@
 //! Which code do statements become, and which has a block?
 //!
-//! The words are those of Wirth's report and of the machine's instructions (`code_form`). The code of an expression is
-//! a part of code (`expr_sem`'s `specs/Parts`); that of statements is a flow, which is known once it is also told how
-//! far away the end of the innermost LOOP is (`specs/Flows`). `specs/Statements` goes over the trees,
-//! `specs/BlockCode` puts a block together; each kind of statement has a file of its own below them. A `Walker` makes
-//! flows of statements where they stand (`specs/Walkers`). A `Body` is the code of a block in the making: it begins
+//! Those that `block_code` defines: the code of an expression is a part of code, that of statements a flow, which is
+//! known once it is also told how far away the end of the innermost LOOP is. Each kind of statement has a file of its
+//! own. A `Walker` makes flows of statements where they stand (`specs/Walkers`). A `Body` is the code of a block in the
+//! making: it begins
 //! with what the body copies first, takes one statement after another, each as a whole or not at all, and ends
 //! (`specs/Bodies`); `procedure_code` is what the object file has of the whole.
 #![tactic(auto)]
@@ -55,7 +54,6 @@ mod flow_builders;
 mod flow_parts;
 mod flow_sizes;
 mod flows;
-mod laws;
 mod procedure_codes;
 mod refusals;
 mod returns;
@@ -71,7 +69,6 @@ mod withs;
 pub use bodies::Body;
 pub use flow_appending::append_flow;
 pub use flows::{Arm, Code, Flow, FlowForm, Turns};
-pub use laws::{code_is_short, code_is_valid, heights_are_right, returns_agree};
 pub use procedure_codes::procedure_code;
 pub use stands::Stand;
 pub use statements::statement;

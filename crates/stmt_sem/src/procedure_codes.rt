@@ -6,11 +6,11 @@ ghost use Rattle.code_form.specs.Heights.{greatest};
 ghost use Rattle.expr_sem.specs.Fragments.{step_view};
 ghost use Rattle.m2_base.specs.Statics.ProcedureRows.{parameter_cells as spec_cells, section_cells as spec_section};
 ghost use Rattle.m2_base.specs.Views.{heading_view, section_view, stream_view};
-ghost use Rattle.stmt_sem.specs.BlockCode.{code_of_run, outer_of as spec_outer, params_of as spec_params};
-ghost use Rattle.stmt_sem.specs.BlockCode.{results_of as spec_results};
+ghost use Rattle.block_code.specs.BlockCode.{code_of_run, outer_of as spec_outer, params_of as spec_params};
+ghost use Rattle.block_code.specs.BlockCode.{results_of as spec_results};
 ghost use Rattle.stmt_sem.specs.Bodies.{whole_in, whole_of};
-ghost use Rattle.stmt_sem.specs.Flows.{Run};
-ghost use Rattle.stmt_sem.specs.ProcedureCodes.{code_view};
+ghost use Rattle.block_code.specs.Flows.{Run};
+ghost use Rattle.block_code.specs.ProcedureCodes.{code_view};
 ghost use Rattle.type_rules.specs.Scenes.{block_of};
 
 use code_form::encode;

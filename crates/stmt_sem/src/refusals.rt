@@ -6,7 +6,7 @@ ghost use Rattle.m2_base.specs.States.{State};
 ghost use Rattle.m2_base.specs.Statics.Contexts.{refuse as spec_refuse};
 ghost use Rattle.expr_sem.specs.Codings.{Coding, IsFragment};
 ghost use Rattle.expr_sem.specs.Fragments.{part};
-ghost use Rattle.expr_sem.specs.Parts.{none};
+ghost use Rattle.block_code.specs.Parts.{none};
 ghost use Rattle.expr_sem.specs.declared.fragments.Node.{Node};
 ghost use Rattle.stmt_sem.specs.Plain.{IsStep, itself};
 

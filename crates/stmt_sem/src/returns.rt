@@ -7,8 +7,8 @@ ghost use Rattle.expr_sem.specs.Codings.{Coding, IsCoded, IsFragment, coded_in};
 ghost use Rattle.expr_sem.specs.Fragments.{part};
 ghost use Rattle.type_rules.specs.Scenes.{IsThere};
 ghost use Rattle.type_rules.specs.Sites.{SuitsSite};
-ghost use Rattle.stmt_sem.specs.Returns.{return_alone as spec_alone};
-ghost use Rattle.stmt_sem.specs.Returns.{return_value as spec_value, returned as spec_returned};
+ghost use Rattle.block_code.specs.Returns.{return_alone as spec_alone};
+ghost use Rattle.block_code.specs.Returns.{return_value as spec_value, returned as spec_returned};
 ghost use Rattle.stmt_sem.specs.Stands.{IsStand};
 ghost use Rattle.stmt_sem.specs.Walkers.{Codes, Keeps, frame_of, nodes_of};
 

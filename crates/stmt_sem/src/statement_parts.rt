@@ -7,7 +7,7 @@ ghost use Rattle.expr_sem.specs.Fragments.{part};
 ghost use Rattle.m2_base.specs.Statics.ReadStatements.{IsReadExprOption};
 ghost use Rattle.stmt_sem.specs.Stands.{IsStand, names_of};
 ghost use Rattle.stmt_sem.specs.StatementParts.{record_of as spec_record, selector as spec_selector};
-ghost use Rattle.stmt_sem.specs.Statements.{return_of, variable as spec_variable};
+ghost use Rattle.block_code.specs.Statements.{return_of, variable as spec_variable};
 ghost use Rattle.stmt_sem.specs.Taken.{IsSelector, selector_in};
 ghost use Rattle.stmt_sem.specs.Walkers.{Codes, Keeps, frame_of};
 

@@ -17,8 +17,8 @@ ghost use Rattle.m2_base.specs.Statics.ReadStatements.{IsReadStatement};
 ghost use Rattle.stmt_sem.specs.Stands.{IsStand, names_of, stand_in};
 ghost use Rattle.stmt_sem.specs.Stated.{AreArms, IsCase, IsOther, arms_in, case_in, cases_in, other_in};
 ghost use Rattle.stmt_sem.specs.StatementParts.{form_of, otherwise as spec_otherwise, with_body as spec_with};
-ghost use Rattle.stmt_sem.specs.Statements.{arms_flow, case_flow, cases_flow, else_flow, flow_of};
-ghost use Rattle.stmt_sem.specs.Statements.{statement_flow};
+ghost use Rattle.block_code.specs.Statements.{arms_flow, case_flow, cases_flow, else_flow, flow_of};
+ghost use Rattle.block_code.specs.Statements.{statement_flow};
 ghost use Rattle.stmt_sem.specs.Walkers.{Keeps, Walks, frame_of, nodes_of};
 
 use crate::counting::{Count, check_step, emit_for};

@@ -11,8 +11,8 @@ ghost use Rattle.type_rules.specs.Asks.{Reads, WhereKnown, WhereWaiting};
 ghost use Rattle.type_rules.specs.Scenes.{WhereTold};
 ghost use Rattle.type_rules.specs.Sites.{SuitsSite, context_of};
 ghost use Rattle.stmt_sem.specs.Stands.{IsStand, names_of};
-ghost use Rattle.stmt_sem.specs.Statements.{test as spec_test};
-ghost use Rattle.stmt_sem.specs.Tests.{false_code as spec_false};
+ghost use Rattle.block_code.specs.Statements.{test as spec_test};
+ghost use Rattle.block_code.specs.Tests.{false_code as spec_false};
 ghost use Rattle.stmt_sem.specs.Walkers.{Codes, Keeps, frame_of};
 
 use crate::refusals::noted;

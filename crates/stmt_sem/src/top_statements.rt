@@ -2,13 +2,13 @@
 ghost use Rattle.std.specs.Prelude.{◌≡◌, None};
 ghost use Rattle.std.specs.Option.{IfSome};
 ghost use Rattle.m2_base.specs.Views.{statement_view};
-ghost use Rattle.stmt_sem.specs.BlockCode.{in_statements};
+ghost use Rattle.block_code.specs.BlockCode.{in_statements};
 ghost use Rattle.stmt_sem.specs.Flowings.{Flowing, IsFlow};
 ghost use Rattle.expr_sem.specs.Fragments.{AreSound};
 ghost use Rattle.stmt_sem.specs.FlowTrees.{flow_in};
 ghost use Rattle.m2_base.specs.Statics.ReadStatements.{IsReadStatement};
 ghost use Rattle.stmt_sem.specs.Stands.{at_first};
-ghost use Rattle.stmt_sem.specs.Statements.{statement_flow};
+ghost use Rattle.block_code.specs.Statements.{statement_flow};
 ghost use Rattle.type_rules.specs.Scenes.{IsThere};
 ghost use Rattle.type_rules.specs.Sites.{SuitsSite};
 

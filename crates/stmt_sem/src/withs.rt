@@ -4,7 +4,7 @@ ghost use Rattle.const_eval.specs.Sites.{IsOperand};
 ghost use Rattle.expr_sem.specs.Codings.{Coding, IsCoded, coded_in};
 ghost use Rattle.expr_sem.specs.declared.fragments.Node.{Node};
 ghost use Rattle.type_rules.specs.Sites.{SuitsSite};
-ghost use Rattle.stmt_sem.specs.Withs.{record_variable as spec_variable};
+ghost use Rattle.block_code.specs.Withs.{record_variable as spec_variable};
 
 use const_eval::is_bad;
 use expr_sem::{Coded, refused};

@@ -36,7 +36,7 @@ use Rattle.decl_sem.specs.Items.{IsAtItem}
 use Rattle.decl_sem.specs.declared.declaring.Declared.{Declared}
 use Rattle.type_rules.specs.Scenes.{IsThere, WhereTold, block_of, hand}
 use Rattle.type_rules.specs.Sites.{SuitsSite, context_of}
-use Rattle.stmt_sem.specs.BlockCode.{bound_result, in_statements, result_by}
+use Rattle.block_code.specs.BlockCode.{bound_result, in_statements, result_by}
 use Rattle.stmt_sem.specs.Bodies.{Adding, Built, IsBuilt, left}
 use Rattle.stmt_sem.specs.Stating.{Returns}
 use Rattle.task_state.specs.Blocks.{block_with}

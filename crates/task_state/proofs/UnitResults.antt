@@ -20,7 +20,7 @@ use Rattle.row_laws.specs.TextTrees.{AreOfTexts, HasTree}
 use Rattle.row_laws.proofs.Chains.{IsChained, blocks_chained}
 use Rattle.row_laws.proofs.TextBlocks.{trees_read}
 use Rattle.row_laws.proofs.Units.{unit_results}
-use Rattle.stmt_sem.specs.BlockCode.{bound_result, result_by}
+use Rattle.block_code.specs.BlockCode.{bound_result, result_by}
 use Rattle.stream_split.specs.Fronts.{AreFronts}
 use Rattle.task_state.proofs.Lists.{each_at}
 use Rattle.task_state.proofs.UnitRows.{each_block_at}

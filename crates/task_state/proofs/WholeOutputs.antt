@@ -17,10 +17,10 @@ use Rattle.m2_base.specs.declared.outputs.Output.{Output}
 use Rattle.m2_base.specs.declared.rows.Row.{Row}
 use Rattle.m2_base.specs.declared.trees.statements.Statement.{Statement as StatementOf}
 use Rattle.type_rules.specs.Scenes.{block_of}
-use Rattle.stmt_sem.specs.BlockCode.{body_of, code_of_run, run_of, size_diags}
+use Rattle.block_code.specs.BlockCode.{body_of, code_of_run, run_of, size_diags}
 use Rattle.stmt_sem.specs.Bodies.{IsBuilt, IsWhole, rest_from, whole_in, whole_of}
-use Rattle.stmt_sem.specs.Flows.{Run}
-use Rattle.stmt_sem.specs.ProcedureCodes.{code_view}
+use Rattle.block_code.specs.Flows.{Run}
+use Rattle.block_code.specs.ProcedureCodes.{code_view}
 use Rattle.stmt_sem.specs.Stating.{block_at}
 use Rattle.stmt_sem.specs.declared.top_statements.Stated.{Stated}
 use Rattle.task_state.specs.Blocks.{block_with}

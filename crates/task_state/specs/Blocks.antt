@@ -19,7 +19,7 @@ use Rattle.m2_base.specs.Units.{IsUnit}
 use Rattle.m2_base.specs.declared.rows.Row.{Row}
 use Rattle.m2_base.specs.declared.sites.Around.{Around}
 use Rattle.decl_sem.specs.ImportedModules.{IsFromBefore}
-use Rattle.stmt_sem.specs.BlockCode.{result_by}
+use Rattle.block_code.specs.BlockCode.{result_by}
 use Rattle.stream_split.specs.Rooms.{most_rows}
 use Rattle.type_rules.specs.Scenes.{block_of}
 

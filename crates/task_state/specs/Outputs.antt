@@ -9,8 +9,8 @@ use Rattle.m2_base.specs.Units.{UnitTexts}
 use Rattle.m2_base.specs.declared.outputs.Output.{Output}
 use Rattle.m2_base.specs.declared.outputs.StreamFault.{StreamFault}
 use Rattle.m2_base.specs.declared.rows.Row.{Row}
-use Rattle.stmt_sem.specs.BlockCode.{block_answers, block_code, block_diags}
-use Rattle.stmt_sem.specs.ProcedureCodes.{code_view}
+use Rattle.block_code.specs.BlockCode.{block_answers, block_code, block_diags}
+use Rattle.block_code.specs.ProcedureCodes.{code_view}
 use Rattle.stream_split.specs.Agreement.{IsFaultOf, SpellsStream}
 use Rattle.stream_split.specs.Streams.{StreamOf}
 

@@ -9,7 +9,7 @@ use Rattle.m2_base.specs.Grammar.{grammar}
 use Rattle.m2_base.specs.Trees.{Expr, Next, expr, exprs, in_brackets, label_with, labels, nexts, selectors, with_operators}
 use Rattle.m2_base.specs.declared.token.Token.{Token}
 use Rattle.m2_base.proofs.LeafExpressions.{after_commas}
-use Rattle.expr_sem.specs.Tokens.{designator_tokens, expr_tokens, exprs_tokens, label_tokens, labels_tokens, nexts_tokens, selector_tokens, selectors_tokens}
+use Rattle.block_code.specs.Tokens.{designator_tokens, expr_tokens, exprs_tokens, label_tokens, labels_tokens, nexts_tokens, selector_tokens, selectors_tokens}
 use Rattle.stream_split.proofs.TypeSizes.{size}
 
 operators_few : (first : Expr) (ns : List Next) (a b : ℕ) → expr_tokens first ≤ a → nexts_tokens (nexts ns) ≤ b → expr_tokens (with_operators first ns) ≤ a + b

@@ -17,8 +17,8 @@ use Rattle.m2_base.specs.WholeTexts as whole
 use Rattle.m2_base.specs.WholeTexts.{SpellsDefinition, SpellsMain, blocks_after, procedures_from}
 use Rattle.m2_base.specs.declared.kind.TokenKind.TheVariants.{Semicolon}
 use Rattle.m2_base.specs.declared.token.Token.{Token}
-use Rattle.stmt_sem.specs.Lengths.{most_tokens}
-use Rattle.stmt_sem.specs.Tokens.{block_tokens, statements_tokens}
+use Rattle.block_code.specs.FlowLengths.{most_tokens}
+use Rattle.block_code.specs.StatementTokens.{block_tokens, statements_tokens}
 use Rattle.stream_split.proofs.Lengths.{text_short}
 use Rattle.stream_split.proofs.TypeSizes.{idents_size, size, size_is}
 use Rattle.unit_laws.proofs.SpelledTrees.{blocks_have}

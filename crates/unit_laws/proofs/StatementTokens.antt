@@ -11,8 +11,8 @@ use Rattle.m2_base.specs.StreamsOf as streams
 use Rattle.m2_base.specs.Trees.{CaseArm, case_arms, exprs, if_arms, statements}
 use Rattle.m2_base.specs.declared.kind.TokenKind.TheVariants.{Bar, Elsif, Exit, Return, Semicolon}
 use Rattle.m2_base.specs.declared.token.Token.{Token}
-use Rattle.expr_sem.specs.Tokens.{exprs_tokens}
-use Rattle.stmt_sem.specs.Tokens.{case_arms_tokens, else_tokens, if_arm_tokens, if_arms_tokens, option_tokens, statement_tokens, statements_tokens}
+use Rattle.block_code.specs.Tokens.{exprs_tokens}
+use Rattle.block_code.specs.StatementTokens.{case_arms_tokens, else_tokens, if_arm_tokens, if_arms_tokens, option_tokens, statement_tokens, statements_tokens}
 use Rattle.stream_split.proofs.TypeSizes.{size}
 use Rattle.unit_laws.proofs.ExpressionTokens.{actuals_few, designator_few, expr_few, labels_few}
 

@@ -14,10 +14,10 @@ ghost use Rattle.m2_base.specs.Statics.ReadTrees.{IsReadItem};
 ghost use Rattle.m2_base.specs.Statics.UnitRows.{unit_rows};
 ghost use Rattle.m2_base.specs.Units.{Front, IsUnit, IsWholeBy, TextOf, UnitTexts};
 ghost use Rattle.row_laws.specs.RowRanges.{EachBlock, IsSoundUnit};
-ghost use Rattle.stmt_sem.specs.BlockCode.{block_code, block_diags};
-ghost use Rattle.stmt_sem.specs.Lengths.{most_tokens};
+ghost use Rattle.block_code.specs.BlockCode.{block_code, block_diags};
+ghost use Rattle.block_code.specs.FlowLengths.{most_tokens};
 ghost use Rattle.stream_split.specs.Fronts.{AreFronts};
-ghost use Rattle.stmt_sem.specs.Tokens.{block_tokens};
+ghost use Rattle.block_code.specs.StatementTokens.{block_tokens};
 
 /// Each module that a block imports, and each from which it imports names, has a scope before the block's: where
 /// nothing is left out of the unit by the fronts of its texts, and these are what the grammar tells.

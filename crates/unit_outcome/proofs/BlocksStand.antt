@@ -14,7 +14,7 @@ use Rattle.m2_base.specs.declared.notes.Diag.{Diag}
 use Rattle.m2_base.specs.declared.rows.Row.{Row}
 use Rattle.m2_base.proofs.EachLaws.{each_append, each_then}
 use Rattle.row_laws.specs.RowRanges.{EachBlock}
-use Rattle.stmt_sem.specs.BlockCode.{block_diags}
+use Rattle.block_code.specs.BlockCode.{block_diags}
 use Rattle.block_laws.specs.Worlds.{over_blocks}
 use Rattle.block_laws.proofs.BlocksAt.{before_of, unit_all, unit_made}
 use Rattle.unit_laws.proofs.SoundUnits.{scopes_are}

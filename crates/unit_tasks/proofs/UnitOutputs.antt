@@ -23,8 +23,8 @@ use Rattle.m2_base.specs.declared.rows.Row.{Row}
 use Rattle.m2_base.specs.declared.trees.declarations.StreamKind.{StreamKind}
 use Rattle.m2_base.specs.declared.trees.declarations.StreamKind.TheVariants.{Definition, Main, Procedure}
 use Rattle.m2_base.proofs.GrammarChecks.{is_ll1, stream_is_root}
-use Rattle.stmt_sem.specs.BlockCode.{ProcedureCode, block_code, block_diags}
-use Rattle.stmt_sem.specs.ProcedureCodes.{code_view}
+use Rattle.block_code.specs.BlockCode.{ProcedureCode, block_code, block_diags}
+use Rattle.block_code.specs.ProcedureCodes.{code_view}
 use Rattle.stream_split.specs.Agreement.{SpellsStream}
 use Rattle.stream_split.specs.Chains.{block_by, own_scope}
 use Rattle.stream_split.specs.Streams.{StreamOf, main_number, main_tokens, streams_of}

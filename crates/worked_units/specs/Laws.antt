@@ -14,9 +14,9 @@ use Rattle.m2_base.specs.Statics.ReadTrees.{IsReadItem}
 use Rattle.m2_base.specs.Statics.UnitRows.{unit_rows}
 use Rattle.m2_base.specs.Units.{UnitTexts}
 use Rattle.row_laws.specs.RowRanges.{EachBlock, IsSoundUnit}
-use Rattle.stmt_sem.specs.BlockCode.{block_code, block_diags}
-use Rattle.stmt_sem.specs.Lengths.{most_tokens}
-use Rattle.stmt_sem.specs.Tokens.{block_tokens}
+use Rattle.block_code.specs.BlockCode.{block_code, block_diags}
+use Rattle.block_code.specs.FlowLengths.{most_tokens}
+use Rattle.block_code.specs.StatementTokens.{block_tokens}
 
 -- no block has a diagnostic
 abbrev pub NoneIsNoted : UnitTrees → Type 0

@@ -15,7 +15,7 @@ use Rattle.m2_base.specs.declared.rows.Row.{Row}
 use Rattle.m2_base.specs.declared.trees.Ident.{Ident}
 use Rattle.m2_base.specs.declared.trees.Qual.{Qual}
 use Rattle.m2_base.specs.declared.trees.declarations.StreamKind.TheVariants.{Definition, Main, Procedure}
-use Rattle.stmt_sem.specs.BlockCode.{block_diags}
+use Rattle.block_code.specs.BlockCode.{block_diags}
 
 -- the diagnostics of these blocks, over the finished scopes before them
 abbrev pub noted_from : Source → (before all : List (List Row)) → List BlockTree → List Diag

@@ -6,7 +6,7 @@ use Rattle.m2_base.specs.Statics.Layouts.{layout_of}
 use Rattle.m2_base.specs.Statics.UnitNotes.{complete_context}
 use Rattle.m2_base.specs.Statics.UnitRows.{unit_rows}
 use Rattle.m2_base.specs.Trees.{Heading}
-use Rattle.stmt_sem.specs.BlockCode.{bound_result}
+use Rattle.block_code.specs.BlockCode.{bound_result}
 use Rattle.row_laws.specs.Results.{BindsItsResult}
 use Rattle.row_laws.proofs.Units.{each_block_then, unit_results}
 use Rattle.block_laws.specs.Results.{ReturnsItsResult}

@@ -1,6 +1,6 @@
 use Rattle.std.proofs.Common.{ap}
 use Rattle.m2_base.specs.declared.operands.Operand.TheVariants.{Variable}
-use Rattle.expr_sem.specs.Coded.{coded}
+use Rattle.block_code.specs.Coded.{coded}
 use Rattle.expr_sem.specs.Codings.{IsCoded, coded_in}
 use Rattle.expr_sem.proofs.Operating.{made_wanted, value_grown}
 use Rattle.expr_sem.proofs.addressed.variable_at.Goals as goal

@@ -1,7 +1,7 @@
 use Rattle.std.proofs.Common.{◌≡◌, ◌∙◌, ◌∷◌, [], ◌+◌, ℕ, length, ap, refl, arith}
 use Rattle.std.specs.Prelude.{min}
 use Rattle.code_form.specs.declared.instr.Instr.TheVariants.{Local, Move}
-use Rattle.expr_sem.specs.Parts.{plain, text, ◌⨟◌}
+use Rattle.block_code.specs.Parts.{plain, text, ◌⨟◌}
 use Rattle.expr_sem.proofs.PieceParts.{Begins-trans, copy_on, then_on}
 use Rattle.expr_sem.proofs.appending.push_copy.Goals as goal
 

@@ -2,7 +2,7 @@ use Rattle.std.proofs.Common.{◌∙◌, ◌∷◌, [], refl, subst, sym}
 use Rattle.std.proofs.lemmas.List.{append-nil}
 use Rattle.m2_base.proofs.Kept.{IsPrefixOf-refl}
 use Rattle.code_form.specs.Heights.{Step}
-use Rattle.expr_sem.specs.Parts.{steps}
+use Rattle.block_code.specs.Parts.{steps}
 use Rattle.expr_sem.specs.Pieces.{Appended}
 use Rattle.expr_sem.specs.declared.pieces.Piece.{Piece}
 use Rattle.expr_sem.proofs.PieceParts.{append_step}

@@ -1,8 +1,8 @@
 use Rattle.std.proofs.Common.{◌≡◌, ◌∙◌, ◌∷◌, ◌++◌, [], Err, List, Ok, Result, ℕ, ap, append_assoc, false, refl, subst, sym, true, w32}
 use Rattle.code_form.specs.declared.instr.Instr.TheVariants.{Load, Local}
-use Rattle.expr_sem.specs.Arguments.{string_copy}
+use Rattle.block_code.specs.Arguments.{string_copy}
 use Rattle.expr_sem.specs.Fragments.{jump_of, part_by, parts_after, step_view}
-use Rattle.expr_sem.specs.Parts.{plain, steps, text, with_record, ◌⨟◌}
+use Rattle.block_code.specs.Parts.{plain, steps, text, with_record, ◌⨟◌}
 use Rattle.expr_sem.specs.Pieces.{Appended, spot_of}
 use Rattle.expr_sem.specs.Stacks.{behind}
 use Rattle.expr_sem.specs.declared.fragments.Form.{Form}

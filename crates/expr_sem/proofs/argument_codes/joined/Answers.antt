@@ -1,8 +1,8 @@
 use Rattle.std.proofs.Common.{◌≡◌, ◌∙◌, None, Option, Some, ap, sym, refl}
 use Rattle.expr_sem.specs.ArgumentCodes.{IsArgument, argument_in}
-use Rattle.expr_sem.specs.Arguments.{after_argument}
+use Rattle.block_code.specs.Arguments.{after_argument}
 use Rattle.expr_sem.specs.Fragments.{part}
-use Rattle.expr_sem.specs.Parts.{Part}
+use Rattle.block_code.specs.Parts.{Part}
 use Rattle.expr_sem.specs.declared.fragments.Fragment.{Fragment}
 use Rattle.expr_sem.proofs.Onwards.{just_wanted}
 use Rattle.expr_sem.proofs.Operating.{value_alone, value_grown}

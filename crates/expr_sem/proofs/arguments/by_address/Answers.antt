@@ -4,7 +4,7 @@ use Rattle.m2_base.specs.Statics.Contexts.{refuse}
 use Rattle.m2_base.specs.Statics.Diagnostics.{wrong_argument}
 use Rattle.m2_base.specs.declared.replies.Ask.TheVariants.{Known}
 use Rattle.expr_sem.specs.ArgumentCodes.{IsArgument, argument_in}
-use Rattle.expr_sem.specs.Arguments.{address_by}
+use Rattle.block_code.specs.Arguments.{address_by}
 use Rattle.expr_sem.specs.Fragments.{part}
 use Rattle.type_rules.specs.Sites.{context_of}
 use Rattle.expr_sem.proofs.ArgumentCases.{address_refused, none_passed, other_address}

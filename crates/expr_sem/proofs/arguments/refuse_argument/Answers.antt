@@ -3,7 +3,7 @@ use Rattle.m2_base.specs.Gives.{gives}
 use Rattle.m2_base.specs.Statics.Contexts.{refuse}
 use Rattle.m2_base.specs.declared.replies.Ask.TheVariants.{Known}
 use Rattle.expr_sem.specs.ArgumentCodes.{IsArgument, argument_in}
-use Rattle.expr_sem.specs.Coded.{in_error}
+use Rattle.block_code.specs.Coded.{in_error}
 use Rattle.m2_base.specs.Diagnostics.{code_of}
 use Rattle.expr_sem.proofs.Operating.{coding_after, unknown, unmade, value_alone}
 use Rattle.expr_sem.proofs.arguments.refuse_argument.Goals as goal

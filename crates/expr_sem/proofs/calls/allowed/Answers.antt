@@ -1,7 +1,7 @@
 use Rattle.std.proofs.Common.{◌≡◌, ◌∙◌, Bool, Ok, ap, refl, sym}
 use Rattle.m2_base.specs.declared.replies.Ask.TheVariants.{Known}
 use Rattle.expr_sem.specs.Callees.{IsCallable, called_in}
-use Rattle.expr_sem.specs.Calls.{is_same_truth}
+use Rattle.block_code.specs.Calls.{is_same_truth}
 use Rattle.expr_sem.proofs.CallCases.{all_allowed, count_refused, kind_refused}
 use Rattle.expr_sem.proofs.Operating.{described, value_alone}
 use Rattle.expr_sem.proofs.calls.allowed.Goals as goal

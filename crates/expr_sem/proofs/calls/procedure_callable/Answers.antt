@@ -3,8 +3,8 @@ use Rattle.code_form.specs.declared.instr.Instr.{Instr}
 use Rattle.type_rules.specs.Scenes.{block_of}
 use Rattle.expr_sem.specs.ArgumentCodes.{parameter_view}
 use Rattle.expr_sem.specs.Callees.{target_called}
-use Rattle.expr_sem.specs.Calls.{procedure_call}
-use Rattle.expr_sem.specs.Parts.{none}
+use Rattle.block_code.specs.Calls.{procedure_call}
+use Rattle.block_code.specs.Parts.{none}
 use Rattle.expr_sem.specs.Targets.{target_view}
 use Rattle.expr_sem.specs.declared.procedure_names.Target.{Target as NamedTarget}
 use Rattle.m2_base.specs.Statics.Contexts.{Scene}

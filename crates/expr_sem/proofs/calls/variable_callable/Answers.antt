@@ -4,9 +4,9 @@ use Rattle.m2_base.specs.States.{Frame}
 use Rattle.code_form.specs.declared.instr.Instr.TheVariants.{CallVar, Load}
 use Rattle.expr_sem.specs.ArgumentCodes.{parameter_view}
 use Rattle.expr_sem.specs.Callees.{IsCallable, called_in, value_called, variable_called}
-use Rattle.expr_sem.specs.Calls.{procedure_call}
+use Rattle.block_code.specs.Calls.{procedure_call}
 use Rattle.expr_sem.specs.Fragments.{part}
-use Rattle.expr_sem.specs.Parts.{plain, ◌⨟◌}
+use Rattle.block_code.specs.Parts.{plain, ◌⨟◌}
 use Rattle.expr_sem.specs.Signatures.{IsSignature}
 use Rattle.expr_sem.proofs.Following.{by_question, then_full}
 use Rattle.expr_sem.proofs.Making.{after_question, question_failed, question_waits}

@@ -1,5 +1,5 @@
 use Rattle.std.proofs.Common.{◌∷◌, []}
-use Rattle.expr_sem.specs.Parts.{plain}
+use Rattle.block_code.specs.Parts.{plain}
 use Rattle.expr_sem.proofs.Sequencing.{then_rest}
 use Rattle.expr_sem.proofs.chains.pair.Goals as goal
 

@@ -1,6 +1,6 @@
 use Rattle.std.proofs.Common.{◌∙◌, ◌∷◌, [], ap}
 use Rattle.code_form.specs.declared.instr.Instr.TheVariants.{IndexOpen}
-use Rattle.expr_sem.specs.Parts.{Part, plain, ◌⨟◌}
+use Rattle.block_code.specs.Parts.{Part, plain, ◌⨟◌}
 use Rattle.expr_sem.proofs.Selecting.{made_full}
 use Rattle.expr_sem.proofs.Sequencing.{Grows-trans, in_later, joined_same, made_after, part_later}
 use Rattle.expr_sem.proofs.elements.open_code.Goals as goal

@@ -5,7 +5,7 @@ use Rattle.m2_base.specs.declared.replies.Ask.TheVariants.{Known}
 use Rattle.type_rules.specs.Scenes.{IsThere, scene_of}
 use Rattle.type_rules.proofs.Compatibles.{told_later}
 use Rattle.type_rules.proofs.Reading.{Reads-trans, Waits_read}
-use Rattle.expr_sem.specs.Coded.{in_error}
+use Rattle.block_code.specs.Coded.{in_error}
 use Rattle.expr_sem.specs.Fragments.{part}
 use Rattle.expr_sem.proofs.Making.{after_question, question_waits}
 use Rattle.expr_sem.proofs.Selecting.{error_alone, pointed_broken, pointed_whole, stays_read}

@@ -7,8 +7,8 @@ use Rattle.type_rules.proofs.Compatibles.{told_later}
 use Rattle.type_rules.proofs.Later.{IsThere_read, Suits_read}
 use Rattle.type_rules.proofs.Reading.{Reads-trans, Waits_read}
 use Rattle.type_rules.specs.Scenes.{scene_of}
-use Rattle.expr_sem.specs.Fitting.{check_of, fit_check as spec_fit_check}
-use Rattle.expr_sem.specs.Parts.{plain}
+use Rattle.block_code.specs.Fitting.{check_of, fit_check as spec_fit_check}
+use Rattle.block_code.specs.Parts.{plain}
 use Rattle.expr_sem.specs.RangeChecks.{checks_of}
 use Rattle.expr_sem.specs.declared.fragments.Fragment.TheVariants.{Nothing}
 use Rattle.expr_sem.proofs.Making.{made_told, question_waits, there_told}

@@ -1,6 +1,6 @@
 use Rattle.std.proofs.Common.{ap, sym}
 use Rattle.m2_base.specs.Gives.{gives}
-use Rattle.expr_sem.specs.Fitting.{fit_of as spec_fit_of}
+use Rattle.block_code.specs.Fitting.{fit_of as spec_fit_of}
 use Rattle.expr_sem.specs.declared.fragments.Fragment.TheVariants.{Nothing}
 use Rattle.type_rules.specs.Sites.{context_of}
 use Rattle.type_rules.proofs.Reading.{Reads-refl}

@@ -4,11 +4,11 @@ use Rattle.m2_base.specs.States.{Frame}
 use Rattle.const_eval.specs.Sites.{IsOperand}
 use Rattle.type_rules.specs.Scenes.{IsThere}
 use Rattle.type_rules.specs.Sites.{SuitsSite}
-use Rattle.expr_sem.specs.Coded.{value_code as spec_value_code}
+use Rattle.block_code.specs.Coded.{value_code as spec_value_code}
 use Rattle.expr_sem.specs.Codings.{coded_in}
-use Rattle.expr_sem.specs.Fitting.{fit_of as spec_fit_of}
+use Rattle.block_code.specs.Fitting.{fit_of as spec_fit_of}
 use Rattle.expr_sem.specs.Fragments.{part}
-use Rattle.expr_sem.specs.Parts.{Part, ◌⨟◌}
+use Rattle.block_code.specs.Parts.{Part, ◌⨟◌}
 use Rattle.expr_sem.proofs.Making.{made_told}
 use Rattle.expr_sem.proofs.Operating.{coding_after, unknown, unknown_after, unmade, unmade_after}
 use Rattle.expr_sem.proofs.Quiet.{no_notes}

@@ -2,7 +2,7 @@ use Rattle.std.proofs.Common.{◌∙◌, ap, refl}
 use Rattle.m2_base.specs.Gives.{gives}
 use Rattle.type_rules.specs.Sites.{context_of}
 use Rattle.const_eval.proofs.TypesThere.{standard_there}
-use Rattle.expr_sem.specs.Coded.{taken, value_code}
+use Rattle.block_code.specs.Coded.{taken, value_code}
 use Rattle.expr_sem.specs.Codings.{coded_in}
 use Rattle.expr_sem.proofs.Operating.{described_there}
 use Rattle.expr_sem.proofs.operators.char_value.Goals as goal

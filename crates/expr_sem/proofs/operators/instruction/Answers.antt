@@ -8,7 +8,7 @@ use Rattle.type_rules.proofs.Compatibles.{told_later}
 use Rattle.type_rules.proofs.Later.{IsThere_read}
 use Rattle.type_rules.proofs.Reading.{Reads-trans, Waits_read}
 use Rattle.const_eval.proofs.Later.{SuitsSite_read}
-use Rattle.expr_sem.specs.Operators.{scalar_instr, set_instr, side_of}
+use Rattle.block_code.specs.Operators.{scalar_instr, set_instr, side_of}
 use Rattle.expr_sem.proofs.operators.instruction.Goals as goal
 
 no_set : (m : RowMeaning) → ((t : Place) → m ≡ Set t → ⊥) → false ≡ is_set_kind m

@@ -2,8 +2,8 @@ use Rattle.std.proofs.Common.{◌≡◌, ap, refl}
 use Rattle.m2_base.specs.declared.trees.operators.Operator.{Operator}
 use Rattle.m2_base.specs.declared.trees.operators.Operator.TheVariants.{Minus, Not}
 use Rattle.expr_sem.specs.Fragments.{part}
-use Rattle.expr_sem.specs.Operators.{one_instr}
-use Rattle.expr_sem.specs.Parts.{Part, none, plain, ◌⨟◌}
+use Rattle.block_code.specs.Operators.{one_instr}
+use Rattle.block_code.specs.Parts.{Part, none, plain, ◌⨟◌}
 use Rattle.expr_sem.proofs.Sequencing.{Grows-refl, made_after}
 use Rattle.expr_sem.proofs.operators.signed.Goals as goal
 

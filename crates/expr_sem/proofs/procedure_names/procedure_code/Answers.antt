@@ -2,8 +2,8 @@ use Rattle.std.proofs.Common.{◌≡◌, ◌∙◌, ◌∷◌, [], ℕ, Option, 
 use Rattle.m2_base.specs.Asks.{IfKnown}
 use Rattle.m2_base.specs.declared.replies.Ask.{Ask}
 use Rattle.code_form.specs.declared.instr.Instr.TheVariants.{Proc}
-use Rattle.expr_sem.specs.Parts.{plain}
-use Rattle.expr_sem.specs.ProcedureNames.{procedure_code as spec_code, target_of_procedure}
+use Rattle.block_code.specs.Parts.{plain}
+use Rattle.block_code.specs.ProcedureNames.{procedure_code as spec_code, target_of_procedure}
 use Rattle.expr_sem.specs.Targets.{target_view}
 use Rattle.expr_sem.specs.declared.procedure_names.Target.{Target}
 use Rattle.type_rules.specs.Scenes.{scene_of}

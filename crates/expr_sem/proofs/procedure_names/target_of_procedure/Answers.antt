@@ -10,8 +10,8 @@ use Rattle.m2_base.specs.declared.rows.RowMeaning.TheVariants.{Proc}
 use Rattle.type_rules.specs.Scenes.{IsThere, scene_of}
 use Rattle.type_rules.proofs.Reading.{Reads-refl}
 use Rattle.type_rules.proofs.Searches.{can_search, found_in, absent_in, waits_at, Reads-searched, found_row}
-use Rattle.expr_sem.specs.ProcedureNames as code
-use Rattle.expr_sem.specs.ProcedureNames.{target_by, target_of_entry, target_of_procedure}
+use Rattle.block_code.specs.ProcedureNames as code
+use Rattle.block_code.specs.ProcedureNames.{target_by, target_of_entry, target_of_procedure}
 use Rattle.expr_sem.proofs.OwnSearch.{own_is_known}
 use Rattle.expr_sem.proofs.procedure_names.target_of_procedure.Goals as goal
 

@@ -1,8 +1,8 @@
 use Rattle.std.proofs.Common.{◌≡◌, ◌∙◌, ◌∷◌, [], ℕ, zero, suc, ap, sym, refl}
 use Rattle.code_form.specs.declared.instr.Instr.TheVariants.{Offset}
 use Rattle.expr_sem.specs.Fragments.{part}
-use Rattle.expr_sem.specs.Parts.{plain, ◌⨟◌}
-use Rattle.expr_sem.specs.RecordFields.{offset_code}
+use Rattle.block_code.specs.Parts.{plain, ◌⨟◌}
+use Rattle.block_code.specs.RecordFields.{offset_code}
 use Rattle.expr_sem.proofs.Sequencing.{Grows-refl, joined_same, made_after, part_later}
 use Rattle.expr_sem.proofs.record_fields.code_behind.Goals as goal
 

@@ -1,6 +1,6 @@
 use Rattle.m2_base.specs.Diagnostics.{code_of}
 use Rattle.m2_base.specs.Statics.Contexts.{refuse}
-use Rattle.expr_sem.specs.Coded.{in_error}
+use Rattle.block_code.specs.Coded.{in_error}
 use Rattle.expr_sem.specs.Codings.{IsCoded, coded_in}
 use Rattle.expr_sem.proofs.Refusing.{not_noted, refused_here}
 use Rattle.expr_sem.proofs.refusals.refused.Goals as goal

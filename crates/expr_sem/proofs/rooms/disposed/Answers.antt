@@ -3,11 +3,11 @@ use Rattle.std.specs.Prelude.{pos}
 use Rattle.m2_base.specs.Gives.{gives}
 use Rattle.code_form.specs.declared.instr.Instr.TheVariants.{Push, Store}
 use Rattle.const_eval.proofs.TypesThere.{standard_there}
-use Rattle.expr_sem.specs.Coded.{coded, in_error}
+use Rattle.block_code.specs.Coded.{coded, in_error}
 use Rattle.expr_sem.specs.Codings.{IsCoded, coded_in}
 use Rattle.expr_sem.specs.Fragments.{part}
-use Rattle.expr_sem.specs.Parts.{Part, plain, ◌⨟◌}
-use Rattle.expr_sem.specs.StandardProcedures.{no_value}
+use Rattle.block_code.specs.Parts.{Part, plain, ◌⨟◌}
+use Rattle.block_code.specs.StandardProcedures.{no_value}
 use Rattle.expr_sem.proofs.Operating.{described, value_grown}
 use Rattle.expr_sem.proofs.Selecting.{coding_full, error_alone}
 use Rattle.expr_sem.proofs.Sequencing.{behind}

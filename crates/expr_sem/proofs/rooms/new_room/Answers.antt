@@ -14,12 +14,12 @@ use Rattle.type_rules.proofs.Later.{IsThere_read, Suits_read}
 use Rattle.type_rules.proofs.Reading.{Reads-refl, Reads-trans, Waits_read}
 use Rattle.type_rules.specs.Scenes.{IsThere}
 use Rattle.type_rules.specs.Sites.{context_of}
-use Rattle.expr_sem.specs.Coded.{coded, in_error}
+use Rattle.block_code.specs.Coded.{coded, in_error}
 use Rattle.expr_sem.specs.Codings.{IsCoded, coded_in}
 use Rattle.expr_sem.specs.Fragments.{part}
-use Rattle.expr_sem.specs.Parts.{Part}
+use Rattle.block_code.specs.Parts.{Part}
 use Rattle.expr_sem.specs.Rooms.{room_at, room_of}
-use Rattle.expr_sem.specs.StandardProcedures.{no_value}
+use Rattle.block_code.specs.StandardProcedures.{no_value}
 use Rattle.expr_sem.proofs.Making.{after_question, question_failed, question_full, question_waits}
 use Rattle.expr_sem.proofs.Operating.{value_grown}
 use Rattle.expr_sem.proofs.Selecting.{error_alone, stays_read}

@@ -5,10 +5,10 @@ use Rattle.m2_base.specs.declared.operands.Operand.{Operand}
 use Rattle.m2_base.specs.declared.operands.Operand.TheVariants.{Computed, Constant}
 use Rattle.const_eval.specs.Sites.{IsOperand}
 use Rattle.expr_sem.specs.Codings.{IsCoded, coded_in}
-use Rattle.expr_sem.specs.Coded.{bare, coded}
+use Rattle.block_code.specs.Coded.{bare, coded}
 use Rattle.expr_sem.specs.Fragments.{part}
-use Rattle.expr_sem.specs.Parts.{Part}
-use Rattle.expr_sem.specs.SetElements.{set_by}
+use Rattle.block_code.specs.Parts.{Part}
+use Rattle.block_code.specs.SetElements.{set_by}
 use Rattle.expr_sem.proofs.Operating.{value_alone, value_grown}
 use Rattle.expr_sem.proofs.Onwards.{just_wanted}
 use Rattle.expr_sem.proofs.Sequencing.{made_before}

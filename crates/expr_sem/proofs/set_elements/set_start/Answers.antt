@@ -8,8 +8,8 @@ use Rattle.type_rules.proofs.Later.{IsThere_read}
 use Rattle.type_rules.proofs.Reading.{Reads-trans, Waits_read, reads_frame}
 use Rattle.const_eval.specs.Sites.{IsOperand}
 use Rattle.const_eval.proofs.Later.{SuitsSite_read}
-use Rattle.expr_sem.specs.Parts.{none}
-use Rattle.expr_sem.specs.SetElements as sets
+use Rattle.block_code.specs.Parts.{none}
+use Rattle.block_code.specs.SetElements as sets
 use Rattle.expr_sem.proofs.set_elements.set_start.Goals as goal
 
 -- no code, and this set

@@ -25,12 +25,12 @@ use Rattle.type_rules.specs.Scenes.{IsThere, WhereTold}
 use Rattle.type_rules.specs.Sites.{context_of}
 use Rattle.type_rules.proofs.Later.{IsThere_read, Suits_read}
 use Rattle.type_rules.proofs.Reading.{Reads-trans}
-use Rattle.expr_sem.specs.Coded as code
-use Rattle.expr_sem.specs.Coded.{in_error, taken}
+use Rattle.block_code.specs.Coded as code
+use Rattle.block_code.specs.Coded.{in_error, taken}
 use Rattle.expr_sem.specs.Codings.{Coding, IsCoded, coded_in}
 use Rattle.expr_sem.specs.SetMembers.{member_by}
-use Rattle.expr_sem.specs.StandardProcedures.{beside, element_of_base, set_member}
-use Rattle.expr_sem.specs.Values.{as_value, in_range}
+use Rattle.block_code.specs.StandardProcedures.{beside, element_of_base, set_member}
+use Rattle.block_code.specs.Values.{as_value, in_range}
 use Rattle.expr_sem.specs.declared.coded.Coded.{Coded}
 use Rattle.expr_sem.specs.declared.fragments.Node.{Node}
 use Rattle.expr_sem.proofs.Following.{by_coding, by_question, followed_by, then_waits}

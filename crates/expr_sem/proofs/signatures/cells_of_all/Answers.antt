@@ -4,7 +4,7 @@ use Rattle.type_rules.specs.Scenes.{scene_of}
 use Rattle.type_rules.proofs.Later.{Suits_read}
 use Rattle.type_rules.proofs.Reading.{Reads-refl, Reads-trans, Waits_read}
 use Rattle.expr_sem.specs.ArgumentCodes.{parameter_view}
-use Rattle.expr_sem.specs.Calls.{cells_of_all}
+use Rattle.block_code.specs.Calls.{cells_of_all}
 use Rattle.expr_sem.specs.declared.arguments.Parameter.{Parameter}
 use Rattle.expr_sem.proofs.CallCases.{cells_step, open_before}
 use Rattle.expr_sem.proofs.signatures.cells_of_all.Goals as goal

@@ -2,7 +2,7 @@ use Rattle.std.proofs.Common.{◌≡◌, ◌+◌, drop, map}
 use Rattle.type_rules.specs.Asks.{Reads}
 use Rattle.type_rules.specs.Scenes.{WhereTold, scene_of}
 use Rattle.expr_sem.specs.ArgumentCodes.{parameter_view}
-use Rattle.expr_sem.specs.Calls.{cells_of_all}
+use Rattle.block_code.specs.Calls.{cells_of_all}
 use Rattle.expr_sem.proofs.signatures.cells_of_all.Given as goal
 
 -- the cells so far and those that are left are all

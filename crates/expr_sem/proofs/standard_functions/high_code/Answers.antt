@@ -3,8 +3,8 @@ use Rattle.m2_base.specs.Gives.{gives}
 use Rattle.m2_base.specs.declared.rows.RowMeaning.{RowMeaning}
 use Rattle.code_form.specs.declared.instr.Instr.TheVariants.{Push}
 use Rattle.expr_sem.specs.Codings.{coded_in, high_in}
-use Rattle.expr_sem.specs.Parts.{plain}
-use Rattle.expr_sem.specs.StandardFunctions.{high_code, high_of_range}
+use Rattle.block_code.specs.Parts.{plain}
+use Rattle.block_code.specs.StandardFunctions.{high_code, high_of_range}
 use Rattle.expr_sem.specs.ValueFunctions.{pushed_high}
 use Rattle.expr_sem.proofs.Highs.{index_there, not_fixed}
 use Rattle.expr_sem.proofs.Making.{made_alone, made_told, question_waits}

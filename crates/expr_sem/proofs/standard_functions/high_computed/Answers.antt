@@ -1,7 +1,7 @@
 use Rattle.m2_base.specs.Standard.{cardinal}
 use Rattle.m2_base.specs.declared.operands.Operand.TheVariants.{Computed}
 use Rattle.const_eval.proofs.TypesThere.{standard_there}
-use Rattle.expr_sem.specs.Coded.{coded}
+use Rattle.block_code.specs.Coded.{coded}
 use Rattle.expr_sem.proofs.Onwards.{with_grown}
 use Rattle.expr_sem.proofs.Operating.{unknown, unmade}
 use Rattle.expr_sem.proofs.Sequencing.{Grows-refl}

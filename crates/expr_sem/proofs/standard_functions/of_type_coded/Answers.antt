@@ -2,7 +2,7 @@ use Rattle.m2_base.specs.Gives.{gives}
 use Rattle.m2_base.specs.States.{Frame}
 use Rattle.const_eval.specs.Calls.{of_type}
 use Rattle.const_eval.specs.Sites.{IsOperand}
-use Rattle.expr_sem.specs.Coded.{bare}
+use Rattle.block_code.specs.Coded.{bare}
 use Rattle.expr_sem.specs.Codings.{IsCoded, coded_in}
 use Rattle.expr_sem.proofs.Onwards.{holds_after}
 use Rattle.expr_sem.proofs.Operating.{coding_after, of_analysed, unknown, unmade, value_alone}

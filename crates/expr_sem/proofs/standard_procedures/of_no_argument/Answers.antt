@@ -5,10 +5,10 @@ use Rattle.m2_base.specs.declared.builtins.Builtin.TheVariants.{Halt}
 use Rattle.m2_base.specs.declared.replies.Ask.TheVariants.{Known}
 use Rattle.code_form.specs.declared.instr.Instr.TheVariants.{Halt as Stop}
 use Rattle.const_eval.proofs.TypesThere.{standard_there}
-use Rattle.expr_sem.specs.Coded.{coded, in_error}
+use Rattle.block_code.specs.Coded.{coded, in_error}
 use Rattle.expr_sem.specs.Codings.{IsCoded, coded_in}
-use Rattle.expr_sem.specs.Parts.{Part, plain}
-use Rattle.expr_sem.specs.StandardProcedures.{no_value, of_no_argument}
+use Rattle.block_code.specs.Parts.{Part, plain}
+use Rattle.block_code.specs.StandardProcedures.{no_value, of_no_argument}
 use Rattle.expr_sem.proofs.Operating.{described, value_grown}
 use Rattle.expr_sem.proofs.Selecting.{coding_full, error_alone}
 use Rattle.expr_sem.proofs.standard_procedures.of_no_argument.Goals as goal

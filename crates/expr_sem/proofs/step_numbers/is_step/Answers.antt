@@ -6,7 +6,7 @@ use Rattle.m2_base.specs.declared.operands.Operand.{Operand}
 use Rattle.type_rules.specs.Asks.{WhereKnown}
 use Rattle.type_rules.specs.Scenes.{scene_of}
 use Rattle.const_eval.specs.Sites.{IsOperand}
-use Rattle.expr_sem.specs.StandardProcedures.{is_step}
+use Rattle.block_code.specs.StandardProcedures.{is_step}
 use Rattle.expr_sem.proofs.step_numbers.is_step.Goals as goal
 
 pub has_base-requires-clause-suits : goal.has_base-requires-clause-suits

@@ -12,10 +12,10 @@ use Rattle.const_eval.specs.Sites.{IsOperand}
 use Rattle.const_eval.proofs.TypesThere.{standard_there, type_there}
 use Rattle.type_rules.specs.Scenes.{IsThere}
 use Rattle.type_rules.specs.Sites.{context_of}
-use Rattle.expr_sem.specs.Coded.{in_error}
+use Rattle.block_code.specs.Coded.{in_error}
 use Rattle.expr_sem.specs.Codings.{IsCoded, coded_in}
-use Rattle.expr_sem.specs.StandardProcedures.{beside, number_of_type, step_type}
-use Rattle.expr_sem.specs.Values.{as_value, in_range}
+use Rattle.block_code.specs.StandardProcedures.{beside, number_of_type, step_type}
+use Rattle.block_code.specs.Values.{as_value, in_range}
 use Rattle.expr_sem.proofs.Following.{by_coding, by_question, followed_by, then_waits}
 use Rattle.expr_sem.proofs.Making.{after_question}
 use Rattle.expr_sem.proofs.Operating.{coding_after, described, unknown, unmade}

@@ -8,7 +8,7 @@ use Rattle.m2_base.specs.declared.rows.RowMeaning.{RowMeaning}
 use Rattle.m2_base.specs.declared.rows.RowMeaning.TheVariants.{Array}
 use Rattle.type_rules.proofs.Later.{IsThere_read, Suits_read, Waits_asked}
 use Rattle.type_rules.proofs.Reading.{Reads-trans, Waits_read}
-use Rattle.expr_sem.specs.Values.{has_broken_part as spec_broken_part, is_passed_over as spec_passed_over}
+use Rattle.block_code.specs.Values.{has_broken_part as spec_broken_part, is_passed_over as spec_passed_over}
 use Rattle.type_rules.specs.Scenes.{scene_of}
 use Rattle.type_rules.proofs.Compatibles.{told_as, told_later}
 use Rattle.expr_sem.proofs.takings.is_passed_over.Goals as goal

@@ -12,7 +12,7 @@ use Rattle.const_eval.specs.Sites.{IsOperand}
 use Rattle.const_eval.proofs.TypesThere.{operand_there}
 use Rattle.const_eval.proofs.Later.{IsOperand_read, SuitsSite_read}
 use Rattle.expr_sem.specs.Takings.{taken_or_refused, taking as spec_taking}
-use Rattle.expr_sem.specs.Values.{is_passed_over as spec_passed_over}
+use Rattle.block_code.specs.Values.{is_passed_over as spec_passed_over}
 use Rattle.expr_sem.specs.declared.takings.Taking.TheVariants.{PassedOver, Refused, Taken}
 use Rattle.expr_sem.proofs.takings.taking_of.Goals as goal
 

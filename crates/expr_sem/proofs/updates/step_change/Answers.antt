@@ -9,9 +9,9 @@ use Rattle.code_form.specs.declared.instr.Instr.TheVariants.{Sub}
 use Rattle.type_rules.specs.Scenes.{scene_of}
 use Rattle.type_rules.specs.Sites.{context_of}
 use Rattle.type_rules.proofs.Compatibles.{told_later}
-use Rattle.expr_sem.specs.Fitting.{check_of}
-use Rattle.expr_sem.specs.Operators.{side_of}
-use Rattle.expr_sem.specs.StandardProcedures.{counting_range, step_instr}
+use Rattle.block_code.specs.Fitting.{check_of}
+use Rattle.block_code.specs.Operators.{side_of}
+use Rattle.block_code.specs.StandardProcedures.{counting_range, step_instr}
 use Rattle.expr_sem.specs.Updates.{second_of}
 use Rattle.type_rules.proofs.Later.{IsThere_read, Suits_read}
 use Rattle.type_rules.proofs.Reading.{Reads-trans, Waits_read}

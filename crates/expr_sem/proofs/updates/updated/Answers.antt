@@ -1,6 +1,6 @@
 use Rattle.std.proofs.Common.{◌∙◌, ◌∷◌, [], refl}
 use Rattle.code_form.specs.declared.instr.Instr.TheVariants.{Store}
-use Rattle.expr_sem.specs.Parts.{plain}
+use Rattle.block_code.specs.Parts.{plain}
 use Rattle.expr_sem.proofs.Selecting.{made_full}
 use Rattle.expr_sem.proofs.Sequencing.{Grows-trans, joined_same, made_after, part_later}
 use Rattle.expr_sem.proofs.updates.updated.Goals as goal

@@ -1,6 +1,6 @@
 use Rattle.std.proofs.Common.{Ok, ap, sym}
 use Rattle.expr_sem.specs.Fragments.{part}
-use Rattle.expr_sem.specs.Parts.{plain, ◌⨟◌}
+use Rattle.block_code.specs.Parts.{plain, ◌⨟◌}
 use Rattle.expr_sem.specs.ValueFunctions.{instrs_of}
 use Rattle.expr_sem.specs.declared.value_functions.Ending.{Ending}
 use Rattle.expr_sem.proofs.Selecting.{made_full}

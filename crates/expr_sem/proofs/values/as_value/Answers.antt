@@ -1,7 +1,7 @@
 use Rattle.std.proofs.Common.{◌∙◌, Ok, ap, refl, sym}
 use Rattle.m2_base.specs.declared.replies.Ask.TheVariants.{Known}
 use Rattle.expr_sem.specs.Codings.{IsCoded, coded_in}
-use Rattle.expr_sem.specs.Values.{as_value_by}
+use Rattle.block_code.specs.Values.{as_value_by}
 use Rattle.type_rules.specs.Sites.{context_of}
 use Rattle.expr_sem.proofs.Operating.{described, described_there, value_alone}
 use Rattle.expr_sem.proofs.ValueCases.{of_module, of_procedure, other_wanted}

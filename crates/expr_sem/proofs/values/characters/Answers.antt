@@ -4,7 +4,7 @@ use Rattle.std.specs.Result.{IfOk}
 use Rattle.m2_base.specs.Statics.Contexts.{Source}
 use Rattle.m2_base.specs.Statics.Operands.{characters_of}
 use Rattle.m2_base.specs.declared.memory.Memory.{Memory}
-use Rattle.expr_sem.specs.Coded.{characters}
+use Rattle.block_code.specs.Coded.{characters}
 use Rattle.expr_sem.proofs.ValueCases.{characters_none, characters_some}
 use Rattle.expr_sem.proofs.values.characters.Goals as goal
 

@@ -3,7 +3,7 @@ use Rattle.m2_base.specs.States.{Frame}
 use Rattle.m2_base.specs.Statics.Ranges.{is_within, range}
 use Rattle.m2_base.specs.declared.replies.Ask.TheVariants.{Known}
 use Rattle.expr_sem.specs.Codings.{IsCoded, coded_in}
-use Rattle.expr_sem.specs.Values.{in_range_by}
+use Rattle.block_code.specs.Values.{in_range_by}
 use Rattle.type_rules.specs.Sites.{context_of}
 use Rattle.expr_sem.proofs.Making.{after_question, question_waits}
 use Rattle.expr_sem.proofs.Operating.{value_alone}

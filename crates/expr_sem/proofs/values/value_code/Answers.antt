@@ -1,10 +1,10 @@
 use Rattle.std.proofs.Common.{◌≡◌, ◌∙◌, ◌∷◌, [], ap, if◌then◌else◌, of_z, refl, rules, sym, to_z, w64}
 use Rattle.m2_base.specs.Gives.{gives}
-use Rattle.expr_sem.specs.Coded.{value_by, value_code as spec_value_code}
+use Rattle.block_code.specs.Coded.{value_by, value_code as spec_value_code}
 use Rattle.expr_sem.specs.Codings.{coded_in}
 use Rattle.code_form.specs.declared.instr.Instr.TheVariants.{Load, Push}
 use Rattle.expr_sem.specs.Fragments.{part}
-use Rattle.expr_sem.specs.Parts.{plain, ◌⨟◌}
+use Rattle.block_code.specs.Parts.{plain, ◌⨟◌}
 use Rattle.type_rules.specs.Sites.{context_of}
 use Rattle.type_rules.proofs.Reading.{Reads-refl}
 use Rattle.expr_sem.proofs.Making.{made_alone, made_told, there_told, question_waits}

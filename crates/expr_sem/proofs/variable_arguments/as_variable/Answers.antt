@@ -1,6 +1,6 @@
 use Rattle.std.proofs.Common.{ap, sym}
 use Rattle.expr_sem.specs.Codings.{coded_in}
-use Rattle.expr_sem.specs.StandardFunctions.{as_variable_by}
+use Rattle.block_code.specs.StandardFunctions.{as_variable_by}
 use Rattle.expr_sem.specs.Codings.{IsCoded}
 use Rattle.expr_sem.proofs.Highs.{no_variable}
 use Rattle.expr_sem.proofs.Operating.{described, value_alone}

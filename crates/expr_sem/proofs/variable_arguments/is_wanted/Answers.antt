@@ -5,7 +5,7 @@ use Rattle.m2_base.specs.declared.rows.Place.{Place}
 use Rattle.m2_base.specs.declared.rows.RowMeaning.{RowMeaning}
 use Rattle.m2_base.specs.declared.rows.RowMeaning.TheVariants.{Pointer, Set}
 use Rattle.type_rules.specs.Scenes.{scene_of}
-use Rattle.expr_sem.specs.StandardProcedures.{is_pointer_type}
+use Rattle.block_code.specs.StandardProcedures.{is_pointer_type}
 use Rattle.expr_sem.specs.VariableArguments.{is_wanted as spec_wanted}
 use Rattle.expr_sem.specs.declared.variable_arguments.Wanted.{Wanted}
 use Rattle.expr_sem.proofs.variable_arguments.is_wanted.Goals as goal

@@ -9,10 +9,10 @@ use Rattle.m2_base.specs.States.{Frame}
 use Rattle.const_eval.proofs.TypesThere.{type_there}
 use Rattle.type_rules.specs.Scenes.{IsThere}
 use Rattle.type_rules.specs.Sites.{context_of}
-use Rattle.expr_sem.specs.Coded.{in_error}
+use Rattle.block_code.specs.Coded.{in_error}
 use Rattle.expr_sem.specs.Codings.{IsCoded, coded_in}
-use Rattle.expr_sem.specs.StandardFunctions.{as_variable}
-use Rattle.expr_sem.specs.StandardProcedures.{variable_where}
+use Rattle.block_code.specs.StandardFunctions.{as_variable}
+use Rattle.block_code.specs.StandardProcedures.{variable_where}
 use Rattle.expr_sem.specs.VariableArguments.{is_wanted}
 use Rattle.expr_sem.proofs.Making.{after_question, question_waits}
 use Rattle.expr_sem.proofs.Operating.{coding_after, described, unknown, unmade, value_alone}

@@ -4,7 +4,7 @@ use Rattle.m2_base.specs.Rows.{row_meaning}
 use Rattle.type_rules.specs.Scenes.{block_of}
 use Rattle.type_rules.specs.Sites.{context_of}
 use Rattle.const_eval.specs.Sites.{IsOperand}
-use Rattle.expr_sem.specs.Variables.{entry_coded, with_address}
+use Rattle.block_code.specs.Variables.{entry_coded, with_address}
 use Rattle.expr_sem.proofs.Making.{after_question, question_waits}
 use Rattle.expr_sem.proofs.Selecting.{error_alone, stays_read}
 use Rattle.expr_sem.proofs.variables.entry_coded.Goals as goal

@@ -9,11 +9,11 @@ use Rattle.code_form.specs.declared.instr.Instr.{Instr}
 use Rattle.code_form.specs.declared.instr.Instr.TheVariants.{Load}
 use Rattle.type_rules.proofs.Reading.{Reads-refl}
 use Rattle.type_rules.specs.Scenes.{block_of}
-use Rattle.expr_sem.specs.Coded.{Coded, coded}
+use Rattle.block_code.specs.Coded.{Coded, coded}
 use Rattle.expr_sem.specs.Codings.{IsCoded, coded_in}
 use Rattle.expr_sem.specs.Fragments.{part}
-use Rattle.expr_sem.specs.Parts.{Part, plain}
-use Rattle.expr_sem.specs.Variables.{cell_instr, with_address}
+use Rattle.block_code.specs.Parts.{Part, plain}
+use Rattle.block_code.specs.Variables.{cell_instr, with_address}
 use Rattle.expr_sem.proofs.Making.{question_failed}
 use Rattle.expr_sem.proofs.Following.{then_full}
 use Rattle.expr_sem.proofs.Operating.{described_there, value_alone, value_grown}

@@ -5,10 +5,10 @@ use Rattle.m2_base.specs.declared.operands.Operand.{Operand}
 use Rattle.m2_base.specs.declared.replies.Ask.TheVariants.{Known}
 use Rattle.expr_sem.specs.Codings.{IsFragment, coded_in}
 use Rattle.expr_sem.specs.Fragments.{part}
-use Rattle.expr_sem.specs.Parts.{Part, none}
+use Rattle.block_code.specs.Parts.{Part, none}
 use Rattle.expr_sem.specs.declared.fragments.Fragment.TheVariants.{Nothing}
 use Rattle.expr_sem.proofs.Operating.{described, value_alone}
-use Rattle.stmt_sem.specs.Assignments.{store_by}
+use Rattle.block_code.specs.Assignments.{store_by}
 use Rattle.stmt_sem.proofs.ActionCases.{store_other}
 use Rattle.stmt_sem.proofs.assignments.store_code.Goals as goal
 

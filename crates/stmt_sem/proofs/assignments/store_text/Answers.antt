@@ -8,13 +8,13 @@ use Rattle.code_form.specs.declared.instr.Instr.TheVariants.{Move}
 use Rattle.const_eval.proofs.TypesThere.{type_there}
 use Rattle.type_rules.specs.Scenes.{IsThere}
 use Rattle.type_rules.specs.Sites.{context_of}
-use Rattle.expr_sem.specs.Coded.{characters}
+use Rattle.block_code.specs.Coded.{characters}
 use Rattle.expr_sem.specs.Fragments.{IsMade, part}
-use Rattle.expr_sem.specs.Parts.{plain, text, ◌⨟◌}
+use Rattle.block_code.specs.Parts.{plain, text, ◌⨟◌}
 use Rattle.expr_sem.proofs.Following.{by_question, then_failed}
 use Rattle.expr_sem.proofs.Making.{made_told, question_full, question_waits}
 use Rattle.expr_sem.proofs.Sequencing.{in_later, joined_same, made_after, part_later}
-use Rattle.stmt_sem.specs.Assignments.{store_text}
+use Rattle.block_code.specs.Assignments.{store_text}
 use Rattle.stmt_sem.proofs.assignments.store_text.Goals as goal
 
 pub cells_of-requires-clause-of : goal.cells_of-requires-clause-of

@@ -10,18 +10,18 @@ use Rattle.const_eval.proofs.Later.{SuitsSite_read}
 use Rattle.const_eval.proofs.TypesThere.{type_there}
 use Rattle.type_rules.specs.Scenes.{IsThere}
 use Rattle.type_rules.specs.Sites.{context_of}
-use Rattle.expr_sem.specs.Coded.{value_code}
+use Rattle.block_code.specs.Coded.{value_code}
 use Rattle.expr_sem.specs.Codings.{IsCoded, coded_in}
-use Rattle.expr_sem.specs.Fitting.{fitted_code}
+use Rattle.block_code.specs.Fitting.{fitted_code}
 use Rattle.expr_sem.specs.Fragments.{part}
-use Rattle.expr_sem.specs.Parts.{Part, plain, ◌⨟◌}
+use Rattle.block_code.specs.Parts.{Part, plain, ◌⨟◌}
 use Rattle.expr_sem.proofs.Making.{after_question, made_alone, question_waits}
 use Rattle.expr_sem.proofs.Onwards.{in_after}
 use Rattle.expr_sem.proofs.Operating.{coding_after, unknown, unmade}
 use Rattle.expr_sem.proofs.Quiet.{no_notes}
 use Rattle.expr_sem.proofs.Selecting.{stays_read}
 use Rattle.expr_sem.proofs.Sequencing.{part_later}
-use Rattle.stmt_sem.specs.Assignments.{store_value}
+use Rattle.block_code.specs.Assignments.{store_value}
 use Rattle.stmt_sem.proofs.assignments.store_value.Goals as goal
 
 pub is_structured-requires-clause-of : goal.is_structured-requires-clause-of

@@ -3,10 +3,10 @@ use Rattle.std.specs.Prelude.{OnOk}
 use Rattle.code_form.specs.declared.instr.Instr.TheVariants.{Load, Local, Move}
 use Rattle.m2_base.specs.Copies.{copy_view}
 use Rattle.m2_base.specs.declared.copies.ParamCopy.{ParamCopy}
-use Rattle.expr_sem.specs.Parts.{plain}
+use Rattle.block_code.specs.Parts.{plain}
 use Rattle.expr_sem.specs.Pieces.{Appended}
 use Rattle.expr_sem.proofs.PieceParts.{then_on}
-use Rattle.stmt_sem.specs.BlockCode.{copy_code}
+use Rattle.block_code.specs.BlockCode.{copy_code}
 use Rattle.stmt_sem.proofs.block_pieces.append_copy.Goals as goal
 
 pub returns-in_ok-push_instr-in-Own-3 : goal.returns-in_ok-push_instr-in-Own-3

@@ -3,9 +3,9 @@ use Rattle.std.proofs.lemmas.List.{drop_all}
 use Rattle.m2_base.specs.Copies.{copy_view}
 use Rattle.m2_base.specs.declared.copies.ParamCopy.{ParamCopy}
 use Rattle.m2_base.specs.declared.copies.ParamCopy.TheVariants.{Own}
-use Rattle.expr_sem.specs.Parts.{none}
+use Rattle.block_code.specs.Parts.{none}
 use Rattle.expr_sem.specs.Stacks.{ends_as}
-use Rattle.stmt_sem.specs.BlockCode.{first_cell, prologue}
+use Rattle.block_code.specs.BlockCode.{first_cell, prologue}
 use Rattle.stmt_sem.specs.Stating.{spot_at}
 use Rattle.stmt_sem.proofs.PiecesJoined.{all_appended, copy_appended, made_alone}
 use Rattle.stmt_sem.proofs.block_pieces.begun.Goals as goal

@@ -1,7 +1,7 @@
 use Rattle.std.proofs.Common.{◌≡◌, [], drop, map}
 use Rattle.m2_base.specs.Copies.{copy_view}
 use Rattle.expr_sem.specs.Stacks.{ends_as}
-use Rattle.stmt_sem.specs.BlockCode.{prologue}
+use Rattle.block_code.specs.BlockCode.{prologue}
 use Rattle.stmt_sem.proofs.block_pieces.begun.Given as goal
 
 -- with the copies that are left, the piece is as if all were appended

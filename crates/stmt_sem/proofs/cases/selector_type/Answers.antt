@@ -15,7 +15,7 @@ use Rattle.expr_sem.proofs.Operating.{described, value_alone}
 use Rattle.expr_sem.proofs.Refusing.{not_noted, refused_here}
 use Rattle.expr_sem.proofs.Selecting.{stays_read}
 use Rattle.expr_sem.specs.Codings.{coded_in}
-use Rattle.stmt_sem.specs.Cases.{selector_type}
+use Rattle.block_code.specs.Cases.{selector_type}
 use Rattle.stmt_sem.specs.Plain.{IsType, itself}
 use Rattle.stmt_sem.proofs.cases.selector_type.Goals as goal
 

@@ -1,10 +1,10 @@
 use Rattle.std.proofs.Common.{◌∙◌, Bool, ap, sym, refl, if◌then◌else◌}
 use Rattle.m2_base.specs.Gives.{gives}
-use Rattle.expr_sem.specs.Coded.{value_code}
+use Rattle.block_code.specs.Coded.{value_code}
 use Rattle.expr_sem.specs.Codings.{coded_in}
 use Rattle.expr_sem.proofs.Making.{made_alone}
 use Rattle.expr_sem.proofs.Operating.{described}
-use Rattle.stmt_sem.specs.Tests.{false_code}
+use Rattle.block_code.specs.Tests.{false_code}
 use Rattle.stmt_sem.proofs.cases.selector_value.Goals as goal
 
 pub returns-then-is_bad : goal.returns-then-is_bad

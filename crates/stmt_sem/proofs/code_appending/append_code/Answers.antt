@@ -2,7 +2,7 @@ use Rattle.std.proofs.Common.{◌∷◌, [], refl, subst, sym}
 use Rattle.std.specs.Prelude.{OnOk}
 use Rattle.code_form.specs.declared.instr.Instr.TheVariants.{Load, Local, Store}
 use Rattle.expr_sem.specs.Fragments.{part}
-use Rattle.expr_sem.specs.Parts.{plain, ◌⨟◌}
+use Rattle.block_code.specs.Parts.{plain, ◌⨟◌}
 use Rattle.expr_sem.specs.Pieces.{Appended}
 use Rattle.expr_sem.proofs.PieceParts.{Begins-trans, then_on}
 use Rattle.stmt_sem.specs.FlowTrees.{code_by}

@@ -1,7 +1,7 @@
 use Rattle.std.proofs.Common.{◌∷◌, [], ℤ, FitsSigned, ap, refl, rules, w64}
 use Rattle.std.proofs.lemmas.Int.{to_z-of_z}
 use Rattle.code_form.specs.declared.instr.Instr.TheVariants.{Load, Local, Push}
-use Rattle.expr_sem.specs.Parts.{plain, ◌⨟◌}
+use Rattle.block_code.specs.Parts.{plain, ◌⨟◌}
 use Rattle.expr_sem.specs.Pieces.{spot_of}
 use Rattle.expr_sem.proofs.PieceParts.{Begins-trans, then_on}
 use Rattle.stmt_sem.proofs.code_appending.push_bound.Goals as goal

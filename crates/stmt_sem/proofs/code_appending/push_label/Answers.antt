@@ -2,10 +2,10 @@ use Rattle.std.proofs.Common.{◌≡◌, ◌∙◌, ◌∷◌, [], ℤ, FitsSign
 use Rattle.std.specs.Prelude.{OnOk}
 use Rattle.std.proofs.lemmas.Int.{to_z-of_z}
 use Rattle.code_form.specs.declared.instr.Instr.TheVariants.{AndJump, Eq, Ge, Le, Load, Local, Push}
-use Rattle.expr_sem.specs.Parts.{plain, ◌⨟◌}
+use Rattle.block_code.specs.Parts.{plain, ◌⨟◌}
 use Rattle.expr_sem.specs.Pieces.{Appended, spot_of}
 use Rattle.expr_sem.proofs.PieceParts.{Begins-trans, then_on}
-use Rattle.stmt_sem.specs.Cases.{label_by}
+use Rattle.block_code.specs.Cases.{label_by}
 use Rattle.stmt_sem.proofs.code_appending.push_label.Goals as goal
 
 pub returns-in-None-clause-ok : goal.returns-in-None-clause-ok

@@ -4,11 +4,11 @@ use Rattle.std.proofs.lemmas.Int.{to_z-of_z}
 use Rattle.std.proofs.lemmas.List.{at_drop_all, get_or_default}
 use Rattle.case_labels.specs.Seen.{test_seen}
 use Rattle.case_labels.specs.declared.tests.LabelTest.{LabelTest}
-use Rattle.expr_sem.specs.Parts.{none}
+use Rattle.block_code.specs.Parts.{none}
 use Rattle.expr_sem.specs.Pieces.{Appended}
 use Rattle.expr_sem.specs.Stacks.{ends_as}
 use Rattle.expr_sem.proofs.PieceParts.{Begins-refl, Begins-trans, append_then}
-use Rattle.stmt_sem.specs.Cases.{labels_code, more_labels_code}
+use Rattle.block_code.specs.Cases.{labels_code, more_labels_code}
 use Rattle.stmt_sem.proofs.FlowsAppended.{all_appended, label_appended}
 use Rattle.stmt_sem.proofs.code_appending.push_labels.Goals as goal
 

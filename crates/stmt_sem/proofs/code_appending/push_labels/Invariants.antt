@@ -2,7 +2,7 @@ use Rattle.std.proofs.Common.{◌≡◌, List, drop, map}
 use Rattle.expr_sem.specs.Pieces.{Begins}
 use Rattle.expr_sem.specs.Stacks.{ends_as}
 use Rattle.expr_sem.specs.declared.pieces.With.{With}
-use Rattle.stmt_sem.specs.Cases.{more_labels_code}
+use Rattle.block_code.specs.Cases.{more_labels_code}
 use Rattle.case_labels.specs.Seen.{test_seen}
 use Rattle.stmt_sem.proofs.code_appending.push_labels.Given as goal
 

@@ -9,7 +9,7 @@ use Rattle.m2_base.specs.declared.rows.Place.{Place}
 use Rattle.m2_base.specs.declared.rows.RowMeaning.{RowMeaning}
 use Rattle.m2_base.specs.declared.rows.RowMeaning.TheVariants.{Var}
 use Rattle.type_rules.specs.Scenes.{scene_of}
-use Rattle.stmt_sem.specs.Counting.{can_control, is_plain}
+use Rattle.block_code.specs.Counting.{can_control, is_plain}
 use Rattle.stmt_sem.proofs.control_variables.can_control.Goals as goal
 
 -- a variable of the block itself

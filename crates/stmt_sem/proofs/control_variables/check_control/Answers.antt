@@ -6,12 +6,12 @@ use Rattle.m2_base.specs.Statics.Diagnostics.{not_a_control_variable}
 use Rattle.m2_base.specs.declared.operands.Operand.{Operand}
 use Rattle.m2_base.specs.declared.replies.Ask.TheVariants.{Known}
 use Rattle.type_rules.specs.Sites.{context_of}
-use Rattle.expr_sem.specs.Coded.{in_error}
+use Rattle.block_code.specs.Coded.{in_error}
 use Rattle.expr_sem.specs.Codings.{IsCoded, coded_in}
 use Rattle.expr_sem.proofs.Making.{after_question, question_waits}
 use Rattle.expr_sem.proofs.Operating.{described, value_alone}
 use Rattle.expr_sem.proofs.Selecting.{error_alone, stays_read}
-use Rattle.stmt_sem.specs.Counting.{controls_by}
+use Rattle.block_code.specs.Counting.{controls_by}
 use Rattle.stmt_sem.proofs.ActionCases.{controls_other}
 use Rattle.stmt_sem.proofs.control_variables.check_control.Goals as goal
 

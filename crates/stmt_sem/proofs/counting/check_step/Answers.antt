@@ -11,7 +11,7 @@ use Rattle.type_rules.specs.Sites.{context_of}
 use Rattle.expr_sem.proofs.Making.{after_question, question_waits}
 use Rattle.expr_sem.proofs.Onwards.{holds_after, suits_after}
 use Rattle.expr_sem.proofs.Operating.{described, of_analysed, unknown, unmade, value_alone}
-use Rattle.stmt_sem.specs.Counting.{is_zero, or_one}
+use Rattle.block_code.specs.Counting.{is_zero, or_one}
 use Rattle.stmt_sem.specs.Plain.{IsStep, itself}
 use Rattle.stmt_sem.proofs.ActionCases.{by_other}
 use Rattle.stmt_sem.proofs.LoopCases.{no_step, step_by, step_found, step_of}

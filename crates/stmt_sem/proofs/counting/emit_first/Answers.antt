@@ -4,10 +4,10 @@ use Rattle.m2_base.specs.Statics.Contexts.{Context}
 use Rattle.m2_base.specs.declared.replies.Ask.TheVariants.{Known}
 use Rattle.expr_sem.specs.Codings.{IsFragment, coded_in}
 use Rattle.expr_sem.specs.Fragments.{part}
-use Rattle.expr_sem.specs.Parts.{Part, none}
+use Rattle.block_code.specs.Parts.{Part, none}
 use Rattle.expr_sem.specs.declared.fragments.Fragment.TheVariants.{Nothing}
 use Rattle.expr_sem.proofs.Operating.{described, value_alone}
-use Rattle.stmt_sem.specs.Assignments.{store_code}
+use Rattle.block_code.specs.Assignments.{store_code}
 use Rattle.stmt_sem.proofs.LoopCases.{first_bad, none_bad, second_bad}
 use Rattle.stmt_sem.proofs.counting.emit_first.Goals as goal
 use Rattle.stmt_sem.proofs.counting.emit_first.Goals.{then-is_bad-via-then-is_bad, then-is_bad-via-else-is_bad+then-is_bad-2}

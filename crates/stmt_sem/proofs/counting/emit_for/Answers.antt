@@ -3,17 +3,17 @@ use Rattle.std.proofs.Math.Path.{fun_ext}
 use Rattle.m2_base.specs.Gives.{and_then, gives}
 use Rattle.m2_base.proofs.Kept.{Works-trans}
 use Rattle.type_rules.specs.Sites.{context_of}
-use Rattle.expr_sem.specs.Coded as code
+use Rattle.block_code.specs.Coded as code
 use Rattle.expr_sem.specs.Codings.{coded_in}
 use Rattle.expr_sem.specs.Fragments.{part}
-use Rattle.expr_sem.specs.Parts.{Part}
+use Rattle.block_code.specs.Parts.{Part}
 use Rattle.expr_sem.proofs.Onwards.{coded_after, suits_after}
 use Rattle.expr_sem.proofs.Operating.{coded_later}
 use Rattle.expr_sem.proofs.Quiet.{no_notes}
 use Rattle.expr_sem.proofs.Sequencing.{Grows-trans, in_later, part_later}
-use Rattle.stmt_sem.specs.Counting.{for_first, for_last, for_step}
+use Rattle.block_code.specs.Counting.{for_first, for_last, for_step}
 use Rattle.stmt_sem.specs.FlowTrees.{CellFlow, MadeBy, code_by, flow_in}
-use Rattle.stmt_sem.specs.Flows.{straight, with_cell, ◌⨾◌}
+use Rattle.block_code.specs.Flows.{straight, with_cell, ◌⨾◌}
 use Rattle.stmt_sem.specs.Stated.{answer_of}
 use Rattle.stmt_sem.proofs.Flowed.{by_answer, described, flowing_after, made_after_both, of_coding, unknown, unmade}
 use Rattle.stmt_sem.proofs.FlowsBehind.{code_unknown, code_unmade, described_told, full_behind}

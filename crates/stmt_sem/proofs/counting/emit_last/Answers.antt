@@ -9,8 +9,8 @@ use Rattle.code_form.specs.declared.instr.Instr.TheVariants.{Local, Store}
 use Rattle.const_eval.proofs.TypesThere.{type_there}
 use Rattle.type_rules.specs.Scenes.{IsThere}
 use Rattle.expr_sem.specs.Codings.{coded_in}
-use Rattle.expr_sem.specs.Fitting.{fitted_code}
-use Rattle.expr_sem.specs.Parts.{Part, none, plain, ◌⨟◌}
+use Rattle.block_code.specs.Fitting.{fitted_code}
+use Rattle.block_code.specs.Parts.{Part, none, plain, ◌⨟◌}
 use Rattle.expr_sem.specs.declared.fragments.Fragment.TheVariants.{Nothing}
 use Rattle.expr_sem.proofs.Onwards.{with_grown}
 use Rattle.expr_sem.proofs.Operating.{described, unknown, unmade, value_alone}

@@ -8,13 +8,13 @@ use Rattle.type_rules.specs.Scenes.{IsThere}
 use Rattle.type_rules.specs.Sites.{context_of}
 use Rattle.expr_sem.specs.Codings.{coded_in}
 use Rattle.expr_sem.specs.Fragments.{Grows, IsMade, part}
-use Rattle.expr_sem.specs.Parts.{plain, ◌⨟◌}
+use Rattle.block_code.specs.Parts.{plain, ◌⨟◌}
 use Rattle.expr_sem.specs.declared.fragments.Node.{Node}
 use Rattle.expr_sem.proofs.Following.{Leads, by_question, then_full}
 use Rattle.expr_sem.proofs.Making.{made_told, question_waits}
 use Rattle.expr_sem.proofs.Sequencing.{Grows-trans, joined_same, made_after, part_later}
-use Rattle.stmt_sem.specs.Counting.{for_step}
-use Rattle.expr_sem.specs.Operators.{side_of}
+use Rattle.block_code.specs.Counting.{for_step}
+use Rattle.block_code.specs.Operators.{side_of}
 use Rattle.stmt_sem.proofs.counting.emit_step.Goals as goal
 
 -- and further fragments

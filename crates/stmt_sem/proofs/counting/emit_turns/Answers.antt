@@ -1,9 +1,9 @@
 use Rattle.std.proofs.Common.{◌∙◌, not, Bool, ap, sym, if◌then◌else◌}
 use Rattle.expr_sem.specs.Codings.{coded_in}
 use Rattle.expr_sem.specs.Fragments.{part}
-use Rattle.stmt_sem.specs.Counting.{for_more, for_test}
+use Rattle.block_code.specs.Counting.{for_more, for_test}
 use Rattle.stmt_sem.specs.FlowTrees.{flow_in}
-use Rattle.stmt_sem.specs.Flows.{counted}
+use Rattle.block_code.specs.Flows.{counted}
 use Rattle.stmt_sem.proofs.counting.emit_turns.Goals as goal
 
 pub returns-then-is_bad : goal.returns-then-is_bad

@@ -1,7 +1,7 @@
 use Rattle.std.proofs.Common.{◌∙◌, ap}
 use Rattle.std.proofs.Math.Path.{fun_ext}
 use Rattle.stmt_sem.specs.FlowTrees.{CellFlow, flow_in}
-use Rattle.stmt_sem.specs.Flows.{Flow, with_cell, ◌⨾◌}
+use Rattle.block_code.specs.Flows.{Flow, with_cell, ◌⨾◌}
 use Rattle.stmt_sem.proofs.FlowsMade.{made_as}
 use Rattle.stmt_sem.proofs.flow_parts.celled.Goals as goal
 

@@ -2,9 +2,9 @@ use Rattle.std.proofs.Common.{[], ◌∷◌, ap}
 use Rattle.std.proofs.Math.Path.{fun_ext}
 use Rattle.code_form.specs.declared.instr.Instr.TheVariants.{Local, Store}
 use Rattle.expr_sem.specs.Fragments.{part}
-use Rattle.expr_sem.specs.Parts.{plain, ◌⨟◌}
+use Rattle.block_code.specs.Parts.{plain, ◌⨟◌}
 use Rattle.stmt_sem.specs.FlowTrees.{CellFlow}
-use Rattle.stmt_sem.specs.Flows.{Flow, straight, with_cell, ◌⨾◌}
+use Rattle.block_code.specs.Flows.{Flow, straight, with_cell, ◌⨾◌}
 use Rattle.stmt_sem.proofs.FlowsMade.{made_as}
 use Rattle.stmt_sem.proofs.flow_parts.with_made.Goals as goal
 

@@ -1,5 +1,5 @@
 use Rattle.std.proofs.Common.{◌≡◌, ◌∙◌, ◌+◌, ◌<◌, ℕ, List, arith, length, subst, sym}
-use Rattle.stmt_sem.specs.Cases.{labels_code}
+use Rattle.block_code.specs.Cases.{labels_code}
 use Rattle.std.proofs.Common.{map}
 use Rattle.std.proofs.lemmas.List.{at_drop_all}
 use Rattle.case_labels.specs.declared.tests.LabelTest.{LabelTest}

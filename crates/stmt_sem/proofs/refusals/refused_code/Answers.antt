@@ -2,7 +2,7 @@ use Rattle.std.proofs.Common.{refl}
 use Rattle.m2_base.specs.Statics.Contexts.{refuse}
 use Rattle.expr_sem.specs.Codings.{IsFragment}
 use Rattle.expr_sem.specs.Fragments.{part}
-use Rattle.expr_sem.specs.Parts.{none}
+use Rattle.block_code.specs.Parts.{none}
 use Rattle.expr_sem.specs.declared.fragments.Fragment.TheVariants.{Nothing}
 use Rattle.expr_sem.proofs.Refusing.{not_noted, refused_here}
 use Rattle.m2_base.specs.Diagnostics.{code_of}

@@ -1,7 +1,7 @@
 use Rattle.std.proofs.Common.{ap, sym, refl}
 use Rattle.expr_sem.proofs.Making.{made_alone}
 use Rattle.expr_sem.proofs.Operating.{described}
-use Rattle.stmt_sem.specs.Returns.{return_alone, return_code}
+use Rattle.block_code.specs.Returns.{return_alone, return_code}
 use Rattle.stmt_sem.proofs.returns.return_alone.Goals as goal
 
 pub returns-in-None : goal.returns-in-None

@@ -3,9 +3,9 @@ use Rattle.m2_base.specs.Gives.{gives}
 use Rattle.m2_base.specs.declared.replies.Ask.TheVariants.{Known}
 use Rattle.code_form.specs.declared.instr.Instr.TheVariants.{Return}
 use Rattle.expr_sem.specs.Codings.{IsFragment, coded_in}
-use Rattle.expr_sem.specs.Fitting.{fitted_code}
+use Rattle.block_code.specs.Fitting.{fitted_code}
 use Rattle.expr_sem.specs.Fragments.{part}
-use Rattle.expr_sem.specs.Parts.{Part, call, none, ◌⨟◌}
+use Rattle.block_code.specs.Parts.{Part, call, none, ◌⨟◌}
 use Rattle.expr_sem.specs.declared.fragments.Fragment.TheVariants.{Nothing}
 use Rattle.expr_sem.proofs.Following.{by_coding, then_full}
 use Rattle.expr_sem.proofs.Making.{made_alone}

@@ -4,7 +4,7 @@ use Rattle.m2_base.specs.Statics.Contexts.{refuse}
 use Rattle.m2_base.specs.Statics.Diagnostics.{exit_outside_loop}
 use Rattle.stmt_sem.specs.FlowTrees.{flow_in}
 use Rattle.stmt_sem.specs.Flowings.{IsFlow}
-use Rattle.stmt_sem.specs.Flows.{exit, nothing}
+use Rattle.block_code.specs.Flows.{exit, nothing}
 use Rattle.stmt_sem.proofs.Flowed.{described, value_alone}
 use Rattle.stmt_sem.proofs.SimpleGiven.{not_noted, refused_flow}
 use Rattle.stmt_sem.proofs.simple_statements.exit_statement.Goals as goal

@@ -1,8 +1,8 @@
 use Rattle.std.proofs.Common.{ap, refl}
 use Rattle.m2_base.specs.Gives.{gives}
 use Rattle.expr_sem.proofs.Operating.{fragment_made}
-use Rattle.stmt_sem.specs.Cases.{no_case}
-use Rattle.stmt_sem.specs.Flows.{straight}
+use Rattle.block_code.specs.Cases.{no_case}
+use Rattle.block_code.specs.Flows.{straight}
 use Rattle.stmt_sem.proofs.Flowed.{by_answer, made_after, of_coding}
 use Rattle.stmt_sem.proofs.SimpleGiven.{fragment_wanted}
 use Rattle.stmt_sem.proofs.simple_statements.no_case_else.Goals as goal

@@ -1,8 +1,8 @@
 use Rattle.std.proofs.Common.{refl, ◌∙◌}
 use Rattle.m2_base.specs.Views.{statement_view}
-use Rattle.stmt_sem.specs.BlockCode.{in_statements}
+use Rattle.block_code.specs.BlockCode.{in_statements}
 use Rattle.stmt_sem.specs.Stands.{at_first}
-use Rattle.stmt_sem.specs.Statements.{statement_flow}
+use Rattle.block_code.specs.Statements.{statement_flow}
 use Rattle.stmt_sem.proofs.TopStatements.{unbegun, without_layout}
 use Rattle.stmt_sem.proofs.top_statements.top_statement.Goals as goal
 

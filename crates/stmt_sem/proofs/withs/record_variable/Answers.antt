@@ -11,12 +11,12 @@ use Rattle.m2_base.specs.declared.rows.Place.{Place}
 use Rattle.const_eval.proofs.TypesThere.{type_there}
 use Rattle.type_rules.specs.Scenes.{IsThere}
 use Rattle.type_rules.specs.Sites.{context_of}
-use Rattle.expr_sem.specs.Coded.{in_error}
+use Rattle.block_code.specs.Coded.{in_error}
 use Rattle.expr_sem.specs.Codings.{IsCoded, coded_in}
 use Rattle.expr_sem.proofs.Making.{after_question, question_waits}
 use Rattle.expr_sem.proofs.Operating.{described, value_alone}
 use Rattle.expr_sem.proofs.Selecting.{stays_read}
-use Rattle.stmt_sem.specs.Withs.{is_record}
+use Rattle.block_code.specs.Withs.{is_record}
 use Rattle.stmt_sem.proofs.withs.record_variable.Goals as goal
 
 pub returns-then-is_bad : goal.returns-then-is_bad

@@ -27,30 +27,30 @@ use Rattle.m2_base.specs.States.{Frame}
 use Rattle.expr_sem.proofs.Following.{by_coding, followed_by, then_unknown, then_wanted}
 use Rattle.expr_sem.proofs.Without.{taken_as}
 use Rattle.expr_sem.specs.ArgumentCodes.{IsArgument, argument_in, parameter_view}
-use Rattle.expr_sem.specs.Arguments.{after_argument, argument}
+use Rattle.block_code.specs.Arguments.{after_argument, argument}
 use Rattle.expr_sem.specs.Callees.{called_in}
-use Rattle.expr_sem.specs.Calls.{call_coded, called}
-use Rattle.expr_sem.specs.Coded.{bare, in_error}
-use Rattle.expr_sem.specs.Coded as code
+use Rattle.block_code.specs.Calls.{call_coded, called}
+use Rattle.block_code.specs.Coded.{bare, in_error}
+use Rattle.block_code.specs.Coded as code
 use Rattle.expr_sem.specs.Codings.{IsCoded, coded_in, with_types}
-use Rattle.expr_sem.specs.Elements.{select_element}
+use Rattle.block_code.specs.Elements.{select_element}
 use Rattle.expr_sem.specs.ExpressionParts.{second_argument, all_passed, behind_first, called_as, called_with, index, member, next_passed, range_to, set_of, type_before}
-use Rattle.expr_sem.specs.Expressions.{continued, designated, element, elements, expression, followed, indexed, looked_at, passed, selected, selector, value}
+use Rattle.block_code.specs.Expressions.{continued, designated, element, elements, expression, followed, indexed, looked_at, passed, selected, selector, value}
 use Rattle.expr_sem.specs.Fragments.{part}
-use Rattle.expr_sem.specs.Parts.{Part, none}
-use Rattle.expr_sem.specs.StandardProcedures.{first_of_two, of_one_argument, of_two_arguments}
+use Rattle.block_code.specs.Parts.{Part, none}
+use Rattle.block_code.specs.StandardProcedures.{first_of_two, of_one_argument, of_two_arguments}
 use Rattle.expr_sem.specs.declared.calls.Callable.{Callable}
 use Rattle.expr_sem.specs.declared.fragments.Fragment.TheVariants.{Nothing}
 use Rattle.expr_sem.proofs.ArgumentFolds.{argument_step, count_given, passed_whole}
 use Rattle.expr_sem.proofs.Calling.{AreLeft, NoMatter, argument_later, as_error, behind_in, behind_there, callee_after, error_in, first_there, left_in, next_given as parameter_given, none_passed, params_after}
 use Rattle.expr_sem.proofs.StandardArguments.{none_given, one_argument_given, two_arguments_given}
 use Rattle.expr_sem.proofs.Sequencing.{Grows-trans, part_later}
-use Rattle.expr_sem.specs.Operators.{one_coded, two_coded}
-use Rattle.expr_sem.specs.RecordFields.{name_coded}
+use Rattle.block_code.specs.Operators.{one_coded, two_coded}
+use Rattle.block_code.specs.RecordFields.{name_coded}
 use Rattle.expr_sem.specs.SetCodings.{AreElements, elements_in}
-use Rattle.expr_sem.specs.SetElements as sets
-use Rattle.expr_sem.specs.SetElements.{add_element, add_range, element_coded, no_elements_yet, set_coded}
-use Rattle.expr_sem.specs.Values.{as_value}
+use Rattle.block_code.specs.SetElements as sets
+use Rattle.block_code.specs.SetElements.{add_element, add_range, element_coded, no_elements_yet, set_coded}
+use Rattle.block_code.specs.Values.{as_value}
 use Rattle.expr_sem.proofs.ExpressionFolds.{indices_folded, labels_folded, looked_folded, nexts_folded, selectors_folded}
 use Rattle.expr_sem.proofs.Onwards.{coded_after, holds_after, suits_after}
 use Rattle.expr_sem.proofs.Coders.{Keeps-refl, Keeps-trans}

@@ -4,12 +4,12 @@ use Rattle.m2_base.specs.Views.{expr_view, label_view, next_view, selector_view}
 use Rattle.m2_base.specs.declared.replies.Ask.TheVariants.{Known}
 use Rattle.const_eval.proofs.Folding.{folded}
 use Rattle.expr_sem.specs.ArgumentCodes.{parameter_view}
-use Rattle.expr_sem.specs.Coded.{in_error}
+use Rattle.block_code.specs.Coded.{in_error}
 use Rattle.expr_sem.specs.Coders.{Codes, Keeps, nodes_of}
 use Rattle.expr_sem.specs.Codings.{Coding, IsCoded, coded_in, with_types}
 use Rattle.expr_sem.specs.ExpressionParts.{index}
-use Rattle.expr_sem.specs.Expressions.{element, expression, followed, selector}
-use Rattle.expr_sem.specs.Parts.{none}
+use Rattle.block_code.specs.Expressions.{element, expression, followed, selector}
+use Rattle.block_code.specs.Parts.{none}
 use Rattle.expr_sem.specs.SetCodings.{AreElements, elements_in}
 use Rattle.expr_sem.proofs.ArgumentFolds.{argument_step}
 use Rattle.expr_sem.proofs.Calling.{AreLeft, NoMatter, error_in, left_in}

@@ -3,8 +3,8 @@ use Rattle.code_form.specs.declared.instr.Instr.TheVariants.{Bit, Union}
 use Rattle.m2_base.specs.Statics.Sets.{with_elements}
 use Rattle.m2_base.specs.declared.operands.Operand.{Operand}
 use Rattle.expr_sem.specs.Fragments.{part}
-use Rattle.expr_sem.specs.Parts.{Part, plain, ◌⨟◌}
-use Rattle.expr_sem.specs.SetElements.{Elements}
+use Rattle.block_code.specs.Parts.{Part, plain, ◌⨟◌}
+use Rattle.block_code.specs.SetElements.{Elements}
 use Rattle.expr_sem.proofs.Onwards.{in_after, with_grown, with_wanted}
 use Rattle.expr_sem.proofs.Operating.{unknown, unmade}
 use Rattle.expr_sem.proofs.Quiet.{no_notes}

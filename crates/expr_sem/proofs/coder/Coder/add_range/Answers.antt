@@ -5,12 +5,12 @@ use Rattle.m2_base.specs.Statics.Sets.{with_elements}
 use Rattle.const_eval.specs.Sites.{IsOperand}
 use Rattle.m2_base.specs.declared.operands.Operand.{Operand}
 use Rattle.m2_base.specs.declared.replies.Ask.TheVariants.{Known}
-use Rattle.expr_sem.specs.Coded.{Coded, value_code}
+use Rattle.block_code.specs.Coded.{Coded, value_code}
 use Rattle.expr_sem.specs.Codings.{coded_in}
 use Rattle.expr_sem.specs.Fragments.{part}
-use Rattle.expr_sem.specs.Parts.{Part, plain, ◌⨟◌}
+use Rattle.block_code.specs.Parts.{Part, plain, ◌⨟◌}
 use Rattle.expr_sem.specs.SetCodings.{AreElements, elements_in}
-use Rattle.expr_sem.specs.SetElements.{Elements}
+use Rattle.block_code.specs.SetElements.{Elements}
 use Rattle.m2_base.specs.Gives.{gives}
 use Rattle.expr_sem.specs.declared.set_elements.Elements.{Elements as Made}
 use Rattle.expr_sem.proofs.Following.{after_values, by_coding, followed_by, then_full, then_unknown, then_wanted}

@@ -4,9 +4,9 @@ use Rattle.m2_base.specs.Views.{designator_view}
 use Rattle.m2_base.specs.declared.replies.Ask.TheVariants.{Known}
 use Rattle.expr_sem.specs.Codings.{with_types}
 use Rattle.expr_sem.specs.Evaluations.{IsEvaluated, evaluated, evaluated_in}
-use Rattle.expr_sem.specs.Expressions.{designated}
+use Rattle.block_code.specs.Expressions.{designated}
 use Rattle.expr_sem.specs.Fragments.{part}
-use Rattle.expr_sem.proofs.Causes.{designator-refused}
+use Rattle.block_code.proofs.Causes.{designator-refused}
 use Rattle.expr_sem.proofs.RefusedLaw.{designated-quiet}
 use Rattle.expr_sem.proofs.Evaluating.{error_evaluated, evaluates, evaluates_full, evaluates_later, evaluates_none, other_evaluated, same_piece, sound_from_none}
 use Rattle.expr_sem.proofs.Operating.{coding_after, value_alone}

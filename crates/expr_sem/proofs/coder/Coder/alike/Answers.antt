@@ -7,7 +7,7 @@ use Rattle.type_rules.proofs.Compatibles.{told_later}
 use Rattle.type_rules.proofs.Reading.{Reads-trans, Waits_read}
 use Rattle.expr_sem.specs.Codings.{coded_in}
 use Rattle.expr_sem.specs.Fragments.{part}
-use Rattle.expr_sem.specs.Parts.{Part, ◌⨟◌}
+use Rattle.block_code.specs.Parts.{Part, ◌⨟◌}
 use Rattle.expr_sem.proofs.ArgumentCases.{alike_other, alike_same, passed}
 use Rattle.expr_sem.proofs.Following.{by_coding, by_question, followed_by, then_full, then_unknown, then_wanted}
 use Rattle.expr_sem.proofs.Making.{after_question, question_waits}

@@ -1,8 +1,8 @@
 use Rattle.m2_base.specs.Gives.{and_then}
 use Rattle.expr_sem.specs.ArgumentCodes.{parameter_view}
-use Rattle.expr_sem.specs.Arguments.{checked_mode as spec_checked}
+use Rattle.block_code.specs.Arguments.{checked_mode as spec_checked}
 use Rattle.expr_sem.specs.Codings.{coded_in}
-use Rattle.expr_sem.specs.Values.{as_value as spec_as_value}
+use Rattle.block_code.specs.Values.{as_value as spec_as_value}
 use Rattle.expr_sem.proofs.ArgumentCases.{chosen, other}
 use Rattle.expr_sem.proofs.Operating.{coding_after, described, unknown, unmade}
 use Rattle.expr_sem.proofs.coder.Coder.argument.Goals as goal

@@ -11,7 +11,7 @@ use Rattle.type_rules.proofs.Compatibles.{told_later}
 use Rattle.type_rules.proofs.Later.{IsThere_read, Suits_read}
 use Rattle.type_rules.proofs.Reading.{Reads-trans, Waits_read}
 use Rattle.const_eval.proofs.Later.{SuitsSite_read}
-use Rattle.expr_sem.specs.Arguments.{alike, array_argument}
+use Rattle.block_code.specs.Arguments.{alike, array_argument}
 use Rattle.expr_sem.specs.Codings.{coded_in}
 use Rattle.expr_sem.specs.Kinds.{IsKindHere}
 use Rattle.expr_sem.proofs.ArgumentCases.{chosen, none_passed, other, other_array}

@@ -2,12 +2,12 @@ use Rattle.std.proofs.Common.{◌∙◌, Ok, ap, subst, sym}
 use Rattle.m2_base.specs.States.{Frame}
 use Rattle.m2_base.specs.declared.replies.Ask.TheVariants.{Known}
 use Rattle.const_eval.specs.Sites.{IsOperand}
-use Rattle.expr_sem.specs.Coded as code
-use Rattle.expr_sem.specs.Coded.{in_error}
+use Rattle.block_code.specs.Coded as code
+use Rattle.block_code.specs.Coded.{in_error}
 use Rattle.expr_sem.specs.Codings.{IsCoded, coded_in}
 use Rattle.m2_base.specs.Diagnostics.{code_of}
 use Rattle.expr_sem.specs.Takings.{IsTaking}
-use Rattle.expr_sem.specs.Values.{in_range}
+use Rattle.block_code.specs.Values.{in_range}
 use Rattle.expr_sem.specs.declared.takings.Taking.{Taking}
 use Rattle.expr_sem.specs.declared.takings.Taking.TheVariants.{PassedOver, Refused, Taken}
 use Rattle.type_rules.specs.Sites.{context_of}

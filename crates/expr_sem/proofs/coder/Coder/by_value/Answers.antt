@@ -7,10 +7,10 @@ use Rattle.m2_base.specs.Statics.Types.{size_of as spec_size}
 use Rattle.m2_base.specs.declared.replies.Ask.TheVariants.{Known}
 use Rattle.type_rules.specs.Scenes.{IsThere}
 use Rattle.expr_sem.specs.ArgumentCodes.{IsArgument, argument_in}
-use Rattle.expr_sem.specs.Arguments.{string_copy, value_argument as spec_value_argument, value_argument_by}
-use Rattle.expr_sem.specs.Coded.{characters as spec_characters}
+use Rattle.block_code.specs.Arguments.{string_copy, value_argument as spec_value_argument, value_argument_by}
+use Rattle.block_code.specs.Coded.{characters as spec_characters}
 use Rattle.expr_sem.specs.Codings.{coded_in}
-use Rattle.expr_sem.specs.Values.{assigned_to as spec_assigned_to}
+use Rattle.block_code.specs.Values.{assigned_to as spec_assigned_to}
 use Rattle.expr_sem.proofs.ArgumentCases.{other_argument, passed}
 use Rattle.expr_sem.proofs.Following.{by_coding, by_question, followed_by, holds, still_around, still_suits, then_failed, then_full, then_unknown, then_waits, then_wanted}
 use Rattle.expr_sem.proofs.Making.{fragment_told}

@@ -5,7 +5,7 @@ use Rattle.m2_base.specs.Views.{designator_view, expr_view}
 use Rattle.const_eval.proofs.ReadParts.{designator_at_seen}
 use Rattle.expr_sem.specs.Codings.{with_types}
 use Rattle.expr_sem.specs.ExpressionParts.{called_with}
-use Rattle.expr_sem.specs.Expressions.{designated}
+use Rattle.block_code.specs.Expressions.{designated}
 use Rattle.expr_sem.proofs.Onwards.{suits_after}
 use Rattle.expr_sem.proofs.Operating.{coding_after, described, unknown, unmade}
 use Rattle.expr_sem.proofs.Walking.{open_after, stands_after}

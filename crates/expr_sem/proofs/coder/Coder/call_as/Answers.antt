@@ -1,9 +1,9 @@
 use Rattle.std.proofs.Common.{◌∙◌, ◌+◌, Ok, ℕ, ap, map}
 use Rattle.expr_sem.specs.ArgumentCodes.{parameter_view}
-use Rattle.expr_sem.specs.Calls.{call_code as spec_call_code, result_cells as spec_result}
-use Rattle.expr_sem.specs.Coded.{coded}
+use Rattle.block_code.specs.Calls.{call_code as spec_call_code, result_cells as spec_result}
+use Rattle.block_code.specs.Coded.{coded}
 use Rattle.expr_sem.specs.Fragments.{part}
-use Rattle.expr_sem.specs.Parts.{call as spec_call, ◌⨟◌}
+use Rattle.block_code.specs.Parts.{call as spec_call, ◌⨟◌}
 use Rattle.expr_sem.proofs.Following.{by_question, then_full}
 use Rattle.expr_sem.proofs.Making.{fragment_told, question_failed, question_full, question_waits}
 use Rattle.expr_sem.proofs.Onwards.{with_grown}

@@ -6,11 +6,11 @@ use Rattle.m2_base.specs.declared.rows.Place.{Place}
 use Rattle.const_eval.proofs.TypesThere.{standard_there}
 use Rattle.type_rules.specs.Sites.{context_of}
 use Rattle.expr_sem.specs.ArgumentCodes.{argument_in, parameter_view}
-use Rattle.expr_sem.specs.Calls.{call_code as spec_call_code, call_coded as spec_call_coded}
-use Rattle.expr_sem.specs.Coded.{coded, in_error}
+use Rattle.block_code.specs.Calls.{call_code as spec_call_code, call_coded as spec_call_coded}
+use Rattle.block_code.specs.Coded.{coded, in_error}
 use Rattle.expr_sem.specs.Codings.{IsCoded, coded_in}
 use Rattle.expr_sem.specs.Fragments.{IsIn, part}
-use Rattle.expr_sem.specs.StandardProcedures.{no_value}
+use Rattle.block_code.specs.StandardProcedures.{no_value}
 use Rattle.expr_sem.specs.declared.fragments.Fragment.{Fragment}
 use Rattle.expr_sem.proofs.Making.{after_question, question_waits}
 use Rattle.expr_sem.proofs.Operating.{described, value_alone}

@@ -2,7 +2,7 @@ use Rattle.std.proofs.Common.{◌∙◌, Ok, ap, refl, sym}
 use Rattle.m2_base.specs.Statics.Builtins.{builtin_of}
 use Rattle.m2_base.specs.declared.replies.Ask.TheVariants.{Known}
 use Rattle.expr_sem.specs.Callees.{IsCallable, called_in}
-use Rattle.expr_sem.specs.Calls.{called_by, no_call}
+use Rattle.block_code.specs.Calls.{called_by, no_call}
 use Rattle.expr_sem.specs.Fragments.{part}
 use Rattle.expr_sem.specs.declared.calls.Callable.TheVariants.{Nothing}
 use Rattle.expr_sem.proofs.CallCases.{other_called, standard_allowed}

@@ -5,7 +5,7 @@ use Rattle.type_rules.specs.Sites.{context_of}
 use Rattle.type_rules.proofs.Reading.{Reads-trans, Waits_read}
 use Rattle.expr_sem.specs.ArgumentCodes.{parameter_view}
 use Rattle.expr_sem.specs.Callees.{allowed_by, called_in, target_called}
-use Rattle.expr_sem.specs.ProcedureNames.{target_of_procedure as spec_target}
+use Rattle.block_code.specs.ProcedureNames.{target_of_procedure as spec_target}
 use Rattle.expr_sem.specs.Signatures.{IsSignature}
 use Rattle.expr_sem.proofs.CallCases.{parts_allowed, type_allowed}
 use Rattle.expr_sem.proofs.Making.{after_question, question_failed, question_waits}

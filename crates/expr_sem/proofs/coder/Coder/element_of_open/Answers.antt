@@ -10,10 +10,10 @@ use Rattle.type_rules.specs.Sites.{context_of}
 use Rattle.type_rules.proofs.Later.{IsThere_read, Suits_read}
 use Rattle.type_rules.proofs.Reading.{Reads-trans}
 use Rattle.const_eval.proofs.Later.{SuitsSite_read}
-use Rattle.expr_sem.specs.Coded.{Coded, coded, in_error, value_code}
+use Rattle.block_code.specs.Coded.{Coded, coded, in_error, value_code}
 use Rattle.expr_sem.specs.Codings.{coded_in, high_in}
 use Rattle.expr_sem.specs.Fragments.{part}
-use Rattle.expr_sem.specs.Parts.{plain, ◌⨟◌}
+use Rattle.block_code.specs.Parts.{plain, ◌⨟◌}
 use Rattle.expr_sem.proofs.Following.{by_question, still_coded, then_unknown, then_waits, then_wanted}
 use Rattle.expr_sem.proofs.Making.{after_question, question_waits}
 use Rattle.expr_sem.proofs.Operating.{coded_later, coding_after, described, stays_coded}

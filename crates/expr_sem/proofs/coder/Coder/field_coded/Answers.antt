@@ -5,10 +5,10 @@ use Rattle.m2_base.specs.declared.replies.Ask.TheVariants.{Known}
 use Rattle.type_rules.specs.Members.{IsFieldThere}
 use Rattle.type_rules.specs.Scenes.{IsThere}
 use Rattle.type_rules.specs.Sites.{context_of}
-use Rattle.expr_sem.specs.Coded.{coded, in_error}
+use Rattle.block_code.specs.Coded.{coded, in_error}
 use Rattle.expr_sem.specs.Fragments.{part}
-use Rattle.expr_sem.specs.Parts.{◌⨟◌}
-use Rattle.expr_sem.specs.RecordFields.{field_by, offset_code}
+use Rattle.block_code.specs.Parts.{◌⨟◌}
+use Rattle.block_code.specs.RecordFields.{field_by, offset_code}
 use Rattle.expr_sem.proofs.Making.{after_question, question_waits}
 use Rattle.expr_sem.proofs.Selecting.{error_alone, not_field, stays_read}
 use Rattle.expr_sem.proofs.coder.Coder.field_coded.Goals as goal

@@ -3,9 +3,9 @@ use Rattle.m2_base.specs.Gives.{gives}
 use Rattle.m2_base.specs.Statics.Contexts.{Context}
 use Rattle.m2_base.specs.declared.builtins.Builtin.{Builtin}
 use Rattle.m2_base.specs.declared.builtins.Builtin.TheVariants.{Dec, Excl, Inc, Incl}
-use Rattle.expr_sem.specs.Coded.{Coded}
+use Rattle.block_code.specs.Coded.{Coded}
 use Rattle.expr_sem.specs.Codings.{IsCoded, coded_in}
-use Rattle.expr_sem.specs.StandardProcedures.{first_of_two, ordinal_variable, set_variable}
+use Rattle.block_code.specs.StandardProcedures.{first_of_two, ordinal_variable, set_variable}
 use Rattle.expr_sem.proofs.Operating.{described, value_alone}
 use Rattle.expr_sem.proofs.coder.Coder.first_of_two.Goals as goal
 

@@ -1,7 +1,7 @@
 use Rattle.std.proofs.Common.{ap, sym}
 use Rattle.m2_base.specs.declared.builtins.Builtin.{Builtin}
 use Rattle.expr_sem.specs.Codings.{coded_in}
-use Rattle.expr_sem.specs.StandardFunctions.{function_of_one}
+use Rattle.block_code.specs.StandardFunctions.{function_of_one}
 use Rattle.expr_sem.proofs.Highs.{no_function}
 use Rattle.expr_sem.proofs.Operating.{described}
 use Rattle.expr_sem.proofs.Selecting.{error_alone}

@@ -12,11 +12,11 @@ use Rattle.code_form.specs.declared.instr.Instr.TheVariants.{Push}
 use Rattle.const_eval.proofs.TypesThere.{type_there}
 use Rattle.type_rules.specs.Scenes.{IsThere}
 use Rattle.type_rules.specs.Sites.{SuitsSite, context_of}
-use Rattle.expr_sem.specs.Coded.{coded, in_error}
+use Rattle.block_code.specs.Coded.{coded, in_error}
 use Rattle.expr_sem.specs.Codings.{IsCoded, coded_in}
 use Rattle.expr_sem.specs.Kinds.{IsKindHere}
-use Rattle.expr_sem.specs.Parts.{plain}
-use Rattle.expr_sem.specs.StandardFunctions.{as_variable, high_of, high_of_range, high_of_variable}
+use Rattle.block_code.specs.Parts.{plain}
+use Rattle.block_code.specs.StandardFunctions.{as_variable, high_of, high_of_range, high_of_variable}
 use Rattle.expr_sem.proofs.Following.{by_coding, by_question, followed_by, then_waits}
 use Rattle.expr_sem.proofs.Highs.{index_there, no_high_of, open_high}
 use Rattle.expr_sem.proofs.Making.{after_question}

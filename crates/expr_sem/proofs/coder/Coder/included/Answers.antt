@@ -12,12 +12,12 @@ use Rattle.code_form.specs.declared.instr.Instr.TheVariants.{Bit, Diff}
 use Rattle.const_eval.proofs.TypesThere.{standard_there, type_there}
 use Rattle.type_rules.specs.Scenes.{IsThere}
 use Rattle.type_rules.specs.Sites.{SuitsSite, context_of}
-use Rattle.expr_sem.specs.Coded.{coded, in_error}
+use Rattle.block_code.specs.Coded.{coded, in_error}
 use Rattle.expr_sem.specs.Codings.{IsCoded, coded_in}
-use Rattle.expr_sem.specs.Fitting.{fitted_code}
+use Rattle.block_code.specs.Fitting.{fitted_code}
 use Rattle.expr_sem.specs.Fragments.{part}
-use Rattle.expr_sem.specs.Parts.{Part}
-use Rattle.expr_sem.specs.StandardProcedures.{included, member_instrs, no_value, set_member, update}
+use Rattle.block_code.specs.Parts.{Part}
+use Rattle.block_code.specs.StandardProcedures.{included, member_instrs, no_value, set_member, update}
 use Rattle.expr_sem.specs.Updates.{updated_by}
 use Rattle.expr_sem.proofs.Following.{by_coding, by_question, followed_by, then_full, then_unknown, then_waits, then_wanted}
 use Rattle.expr_sem.proofs.Making.{after_question}

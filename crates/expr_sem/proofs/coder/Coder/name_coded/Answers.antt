@@ -3,8 +3,8 @@ use Rattle.m2_base.specs.Gives.{gives}
 use Rattle.m2_base.specs.Statics.Contexts.{Context}
 use Rattle.type_rules.specs.Sites.{context_of}
 use Rattle.expr_sem.specs.Codings.{with_types}
-use Rattle.expr_sem.specs.Parts.{with_record}
-use Rattle.expr_sem.specs.RecordFields.{field_coded, name_coded as spec_name}
+use Rattle.block_code.specs.Parts.{with_record}
+use Rattle.block_code.specs.RecordFields.{field_coded, name_coded as spec_name}
 use Rattle.expr_sem.proofs.Making.{after_question, question_failed, question_waits}
 use Rattle.expr_sem.proofs.Operating.{described}
 use Rattle.expr_sem.proofs.Selecting.{grown, grown_wanted, name_given}

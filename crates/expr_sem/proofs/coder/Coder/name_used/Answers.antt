@@ -8,7 +8,7 @@ use Rattle.m2_base.specs.declared.rows.Place.{Place}
 use Rattle.m2_base.specs.declared.rows.Row.{Row}
 use Rattle.type_rules.specs.Scenes.{IsRowOf}
 use Rattle.const_eval.specs.Analyses.{Analysed}
-use Rattle.expr_sem.specs.Variables.{entry_coded}
+use Rattle.block_code.specs.Variables.{entry_coded}
 use Rattle.expr_sem.proofs.Operating.{coding_after, of_analysed}
 use Rattle.expr_sem.proofs.Sequencing.{Grows-refl}
 use Rattle.type_rules.specs.Sites.{SuitsSite}

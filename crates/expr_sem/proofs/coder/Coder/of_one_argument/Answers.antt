@@ -4,10 +4,10 @@ use Rattle.m2_base.specs.Statics.Contexts.{Context}
 use Rattle.m2_base.specs.declared.builtins.Builtin.{Builtin}
 use Rattle.m2_base.specs.declared.builtins.Builtin.TheVariants.{Dec, Dispose, Inc, New}
 use Rattle.const_eval.proofs.TypesThere.{standard_there}
-use Rattle.expr_sem.specs.Coded.{Coded}
+use Rattle.block_code.specs.Coded.{Coded}
 use Rattle.expr_sem.specs.Codings.{coded_in}
-use Rattle.expr_sem.specs.StandardFunctions.{function_of_one}
-use Rattle.expr_sem.specs.StandardProcedures.{disposed, new_room, of_one_argument, one, ordinal_variable, pointer_variable, stepped}
+use Rattle.block_code.specs.StandardFunctions.{function_of_one}
+use Rattle.block_code.specs.StandardProcedures.{disposed, new_room, of_one_argument, one, ordinal_variable, pointer_variable, stepped}
 use Rattle.expr_sem.proofs.Onwards.{coded_after, suits_after}
 use Rattle.expr_sem.proofs.Operating.{coding_after, described, unknown, unmade}
 use Rattle.expr_sem.proofs.coder.Coder.of_one_argument.Goals as goal

@@ -3,9 +3,9 @@ use Rattle.m2_base.specs.Gives.{and_then, gives}
 use Rattle.m2_base.specs.Statics.Contexts.{Context}
 use Rattle.m2_base.specs.declared.builtins.Builtin.{Builtin}
 use Rattle.m2_base.specs.declared.builtins.Builtin.TheVariants.{Dec, Excl, Inc, Incl, Val}
-use Rattle.expr_sem.specs.Coded.{Coded, in_error}
+use Rattle.block_code.specs.Coded.{Coded, in_error}
 use Rattle.expr_sem.specs.Codings.{coded_in}
-use Rattle.expr_sem.specs.StandardProcedures.{included, of_two_arguments, set_member, step_number, stepped}
+use Rattle.block_code.specs.StandardProcedures.{included, of_two_arguments, set_member, step_number, stepped}
 use Rattle.expr_sem.proofs.Onwards.{coded_after, suits_after}
 use Rattle.expr_sem.proofs.Operating.{coding_after, described, unknown, unmade}
 use Rattle.expr_sem.proofs.Selecting.{error_alone}

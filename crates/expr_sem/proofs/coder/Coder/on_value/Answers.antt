@@ -4,9 +4,9 @@ use Rattle.m2_base.specs.States.{Frame}
 use Rattle.m2_base.specs.declared.replies.Ask.TheVariants.{Known}
 use Rattle.const_eval.specs.Sites.{IsOperand}
 use Rattle.expr_sem.specs.Codings.{coded_in}
-use Rattle.expr_sem.specs.Operators.{made}
+use Rattle.block_code.specs.Operators.{made}
 use Rattle.expr_sem.specs.ValueFunctions.{IsRuleHere, code_of, rule_of, under}
-use Rattle.expr_sem.specs.Values.{as_value}
+use Rattle.block_code.specs.Values.{as_value}
 use Rattle.expr_sem.proofs.Following.{by_coding, followed_by, then_unknown, then_wanted}
 use Rattle.expr_sem.proofs.Onwards.{coded_after, holds_after, suits_after, with_grown}
 use Rattle.expr_sem.proofs.Operating.{coding_after, of_analysed, unknown, unmade}

@@ -4,10 +4,10 @@ use Rattle.m2_base.specs.States.{Frame}
 use Rattle.m2_base.specs.Statics.Operations.{apply_one}
 use Rattle.m2_base.specs.declared.replies.Ask.TheVariants.{Known}
 use Rattle.const_eval.specs.Sites.{IsOperand}
-use Rattle.expr_sem.specs.Coded.{value_code}
+use Rattle.block_code.specs.Coded.{value_code}
 use Rattle.expr_sem.specs.Codings.{IsCoded, coded_in}
-use Rattle.expr_sem.specs.Operators.{made, one_instr}
-use Rattle.expr_sem.specs.Parts.{none, plain, ◌⨟◌}
+use Rattle.block_code.specs.Operators.{made, one_instr}
+use Rattle.block_code.specs.Parts.{none, plain, ◌⨟◌}
 use Rattle.expr_sem.proofs.Following.{by_coding, followed_by, holds, still_coded, still_suits, then_full, then_unknown, then_wanted}
 use Rattle.expr_sem.proofs.Onwards.{with_fragment, with_grown}
 use Rattle.expr_sem.proofs.Operating.{coding_after, of_analysed, unknown, unmade, value_alone}

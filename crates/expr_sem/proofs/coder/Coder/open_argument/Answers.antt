@@ -7,11 +7,11 @@ use Rattle.code_form.specs.declared.instr.Instr.TheVariants.{Push}
 use Rattle.const_eval.proofs.TypesThere.{standard_there}
 use Rattle.type_rules.specs.Sites.{context_of}
 use Rattle.type_rules.proofs.Reading.{Reads-refl}
-use Rattle.expr_sem.specs.Arguments.{open_argument}
-use Rattle.expr_sem.specs.Coded.{characters}
+use Rattle.block_code.specs.Arguments.{open_argument}
+use Rattle.block_code.specs.Coded.{characters}
 use Rattle.expr_sem.specs.Codings.{coded_in}
 use Rattle.expr_sem.specs.Fragments.{part}
-use Rattle.expr_sem.specs.Parts.{plain, text, ◌⨟◌}
+use Rattle.block_code.specs.Parts.{plain, text, ◌⨟◌}
 use Rattle.expr_sem.proofs.ArgumentCases.{other_open, passed, string_refused, string_taken}
 use Rattle.expr_sem.proofs.Following.{by_question, then_full}
 use Rattle.expr_sem.proofs.Making.{after_question, fragment_told, question_full, question_waits}

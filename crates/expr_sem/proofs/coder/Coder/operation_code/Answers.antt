@@ -7,11 +7,11 @@ use Rattle.code_form.specs.declared.instr.Instr.{Instr}
 use Rattle.type_rules.specs.Scenes.{IsThere}
 use Rattle.type_rules.specs.Sites.{context_of}
 use Rattle.const_eval.proofs.TypesThere.{type_there}
-use Rattle.expr_sem.specs.Coded.{value_code, with_char}
+use Rattle.block_code.specs.Coded.{value_code, with_char}
 use Rattle.expr_sem.specs.Codings.{coded_in}
 use Rattle.expr_sem.specs.Fragments.{part}
-use Rattle.expr_sem.specs.Operators.{operation_code, two_instr}
-use Rattle.expr_sem.specs.Parts.{plain, ◌⨟◌}
+use Rattle.block_code.specs.Operators.{operation_code, two_instr}
+use Rattle.block_code.specs.Parts.{plain, ◌⨟◌}
 use Rattle.expr_sem.proofs.Following.{after_values, by_coding, followed_by, holds, still_coded, still_in, still_suits, then_unknown, then_waits, then_wanted}
 use Rattle.expr_sem.proofs.Making.{made_alone, made_told}
 use Rattle.expr_sem.proofs.Operating.{coded_later, described, unknown, unmade}

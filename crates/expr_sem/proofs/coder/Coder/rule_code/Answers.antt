@@ -7,10 +7,10 @@ use Rattle.code_form.specs.declared.instr.Instr.{Instr}
 use Rattle.const_eval.proofs.TypesThere.{standard_there, type_there}
 use Rattle.type_rules.specs.Scenes.{IsThere}
 use Rattle.type_rules.specs.Sites.{context_of}
-use Rattle.expr_sem.specs.Coded.{value_code}
+use Rattle.block_code.specs.Coded.{value_code}
 use Rattle.expr_sem.specs.Codings.{coded_in}
 use Rattle.expr_sem.specs.Fragments.{part}
-use Rattle.expr_sem.specs.Parts.{plain, ◌⨟◌}
+use Rattle.block_code.specs.Parts.{plain, ◌⨟◌}
 use Rattle.expr_sem.specs.ValueFunctions.{code_to, ending}
 use Rattle.expr_sem.proofs.Following.{by_coding, then_waits}
 use Rattle.expr_sem.proofs.Making.{made_told}

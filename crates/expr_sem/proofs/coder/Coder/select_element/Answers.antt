@@ -5,10 +5,10 @@ use Rattle.m2_base.specs.declared.operands.Operand.{Operand}
 use Rattle.const_eval.specs.Sites.{IsOperand}
 use Rattle.const_eval.proofs.Later.{SuitsSite_read}
 use Rattle.type_rules.specs.Sites.{context_of}
-use Rattle.expr_sem.specs.Coded as code
+use Rattle.block_code.specs.Coded as code
 use Rattle.expr_sem.specs.Codings.{coded_in}
-use Rattle.expr_sem.specs.Elements.{element_of_array, element_of_open, of_array, select_element_by}
-use Rattle.expr_sem.specs.Values.{assigned_to}
+use Rattle.block_code.specs.Elements.{element_of_array, element_of_open, of_array, select_element_by}
+use Rattle.block_code.specs.Values.{assigned_to}
 use Rattle.expr_sem.proofs.Following.{by_question, then_unknown, then_wanted}
 use Rattle.expr_sem.proofs.Making.{after_question, question_waits}
 use Rattle.expr_sem.proofs.Onwards.{coded_after, suits_after}

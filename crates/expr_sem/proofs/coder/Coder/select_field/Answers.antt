@@ -8,7 +8,7 @@ use Rattle.type_rules.proofs.Later.{IsThere_read, Suits_read}
 use Rattle.type_rules.proofs.Reading.{Reads-trans, Waits_read}
 use Rattle.type_rules.specs.Sites.{context_of}
 use Rattle.expr_sem.specs.Fragments.{part}
-use Rattle.expr_sem.specs.RecordFields.{found_field, of_record, select_field_by}
+use Rattle.block_code.specs.RecordFields.{found_field, of_record, select_field_by}
 use Rattle.expr_sem.specs.Selections.{IsField}
 use Rattle.expr_sem.proofs.Making.{after_question, question_waits}
 use Rattle.expr_sem.proofs.Operating.{described}

@@ -4,7 +4,7 @@ use Rattle.const_eval.specs.Sites.{IsOperand}
 use Rattle.const_eval.proofs.Later.{SuitsSite_read}
 use Rattle.type_rules.specs.Sites.{context_of}
 use Rattle.type_rules.proofs.Reading.{Reads-refl}
-use Rattle.expr_sem.specs.Elements.{of_pointer, select_target_by}
+use Rattle.block_code.specs.Elements.{of_pointer, select_target_by}
 use Rattle.expr_sem.specs.Fragments.{part}
 use Rattle.expr_sem.proofs.Making.{after_question, question_failed, question_waits}
 use Rattle.expr_sem.proofs.Operating.{described}

@@ -13,9 +13,9 @@ use Rattle.const_eval.proofs.TypesThere.{type_there}
 use Rattle.type_rules.specs.Scenes.{IsThere}
 use Rattle.type_rules.specs.Sites.{context_of}
 use Rattle.expr_sem.specs.Codings.{coded_in}
-use Rattle.expr_sem.specs.Operators.{made}
-use Rattle.expr_sem.specs.Parts.{plain}
-use Rattle.expr_sem.specs.StandardFunctions.{size_code}
+use Rattle.block_code.specs.Operators.{made}
+use Rattle.block_code.specs.Parts.{plain}
+use Rattle.block_code.specs.StandardFunctions.{size_code}
 use Rattle.expr_sem.specs.ValueFunctions.{pushed_size}
 use Rattle.expr_sem.proofs.Following.{by_coding, by_question, followed_by, then_full, then_waits}
 use Rattle.expr_sem.proofs.Making.{fragment_told}

@@ -8,11 +8,11 @@ use Rattle.m2_base.specs.declared.rows.Place.{Place}
 use Rattle.code_form.specs.declared.instr.Instr.{Instr}
 use Rattle.const_eval.proofs.TypesThere.{standard_there, type_there}
 use Rattle.type_rules.specs.Scenes.{IsThere}
-use Rattle.expr_sem.specs.Coded.{coded, in_error, value_code}
+use Rattle.block_code.specs.Coded.{coded, in_error, value_code}
 use Rattle.expr_sem.specs.Codings.{IsCoded, coded_in}
 use Rattle.expr_sem.specs.Fragments.{part}
-use Rattle.expr_sem.specs.Parts.{Part}
-use Rattle.expr_sem.specs.StandardProcedures.{no_value, step_instrs, update}
+use Rattle.block_code.specs.Parts.{Part}
+use Rattle.block_code.specs.StandardProcedures.{no_value, step_instrs, update}
 use Rattle.expr_sem.specs.Updates.{instrs_of, updated_by}
 use Rattle.expr_sem.proofs.Following.{by_coding, by_question, followed_by, then_full, then_waits}
 use Rattle.expr_sem.proofs.Making.{after_question}

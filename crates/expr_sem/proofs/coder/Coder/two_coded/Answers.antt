@@ -8,10 +8,10 @@ use Rattle.m2_base.specs.declared.operands.Operand.TheVariants.{Computed}
 use Rattle.m2_base.specs.declared.replies.Ask.TheVariants.{Known}
 use Rattle.type_rules.specs.Scenes.{IsThere}
 use Rattle.const_eval.specs.Sites.{IsOperand}
-use Rattle.expr_sem.specs.Coded.{value_code, with_char}
+use Rattle.block_code.specs.Coded.{value_code, with_char}
 use Rattle.expr_sem.specs.Codings.{IsCoded, coded_in}
-use Rattle.expr_sem.specs.Operators.{made, operation_code}
-use Rattle.expr_sem.specs.Parts.{none}
+use Rattle.block_code.specs.Operators.{made, operation_code}
+use Rattle.block_code.specs.Parts.{none}
 use Rattle.expr_sem.proofs.Following.{by_coding, holds, still_coded, still_suits, then_unknown, then_wanted}
 use Rattle.expr_sem.proofs.Onwards.{with_grown}
 use Rattle.expr_sem.proofs.Operating.{coding_after, described, of_analysed, unknown, unmade, value_alone}

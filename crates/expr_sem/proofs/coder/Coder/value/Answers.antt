@@ -3,13 +3,13 @@ use Rattle.m2_base.specs.Gives.{gives}
 use Rattle.m2_base.specs.Views.{expr_view}
 use Rattle.m2_base.specs.declared.operands.Operand.{Operand}
 use Rattle.m2_base.specs.declared.replies.Ask.TheVariants.{Known}
-use Rattle.expr_sem.specs.Coded.{value_code}
+use Rattle.block_code.specs.Coded.{value_code}
 use Rattle.expr_sem.specs.Codings.{coded_in, with_types}
 use Rattle.expr_sem.specs.Evaluations.{IsEvaluated, evaluated, evaluated_in}
-use Rattle.expr_sem.specs.Expressions.{value}
-use Rattle.expr_sem.specs.Parts.{Part}
+use Rattle.block_code.specs.Expressions.{value}
+use Rattle.block_code.specs.Parts.{Part}
 use Rattle.expr_sem.specs.declared.fragments.Fragment.{Fragment}
-use Rattle.expr_sem.proofs.Causes.{value-refused}
+use Rattle.block_code.proofs.Causes.{value-refused}
 use Rattle.expr_sem.proofs.RefusedLaw.{value-quiet}
 use Rattle.expr_sem.proofs.Evaluating.{error_evaluated, evaluates, evaluates_full, evaluates_later, evaluates_none, other_evaluated, same_piece, sound_from_none}
 use Rattle.expr_sem.proofs.Following.{by_coding, then_unknown, then_wanted}

@@ -2,7 +2,7 @@ use Rattle.std.proofs.Common.{◌≡◌, ◌++◌, ◌∷◌, [], ℕ, Err, List
 use Rattle.std.specs.Prelude.{IsErr}
 use Rattle.m2_base.specs.declared.memory.Memory.{Memory}
 use Rattle.expr_sem.specs.Fragments.{Grows, IsMade, part_by, parts_after}
-use Rattle.expr_sem.specs.Parts.{Part}
+use Rattle.block_code.specs.Parts.{Part}
 use Rattle.expr_sem.specs.declared.fragments.Fragment.{Fragment}
 use Rattle.expr_sem.specs.declared.fragments.Fragment.TheVariants.{Node as NodeOf}
 use Rattle.expr_sem.specs.declared.fragments.Node.{Node}

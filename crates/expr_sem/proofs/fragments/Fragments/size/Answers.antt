@@ -1,6 +1,6 @@
 use Rattle.std.proofs.Common.{◌∙◌, subst, ap}
 use Rattle.expr_sem.specs.Fragments.{IsIn, part}
-use Rattle.expr_sem.specs.Parts.{steps_size}
+use Rattle.block_code.specs.Parts.{steps_size}
 use Rattle.expr_sem.specs.declared.fragments.Fragment.{Fragment}
 use Rattle.expr_sem.proofs.Pushing.{sized_at}
 use Rattle.expr_sem.proofs.fragments.Fragments.size.Goals as goal

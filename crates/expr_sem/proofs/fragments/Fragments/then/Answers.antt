@@ -1,6 +1,6 @@
 use Rattle.std.proofs.Common.{arith}
 use Rattle.expr_sem.specs.Fragments.{part}
-use Rattle.expr_sem.proofs.Pushing.{size_then}
+use Rattle.block_code.proofs.Sizes.{size_then}
 use Rattle.expr_sem.proofs.fragments.Fragments.then.Goals as goal
 
 pub push-requires-clause-size : goal.push-requires-clause-size

@@ -2,7 +2,7 @@ use Rattle.std.proofs.Common.{◌+◌, ◌<◌, Ok, length, refl, subst, sym}
 use Rattle.m2_base.specs.Views.{statement_view, stream_view}
 use Rattle.m2_base.specs.declared.replies.Ask.TheVariants.{Known}
 use Rattle.stmt_sem.specs.Bodies.{Adding, Built, IsAdded, given_in}
-use Rattle.stmt_sem.specs.Flows.{part_at}
+use Rattle.block_code.specs.Flows.{part_at}
 use Rattle.stmt_sem.specs.FlowTrees.{flow_in}
 use Rattle.stmt_sem.specs.Stating.{made_in}
 use Rattle.stmt_sem.proofs.BodyStatements.{added, added_waits, unadded}

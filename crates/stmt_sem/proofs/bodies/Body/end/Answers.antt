@@ -1,8 +1,8 @@
 use Rattle.std.proofs.Common.{◌≤◌, ◌∙◌, ◌++◌, ap, arith, length, refl, sym}
 use Rattle.m2_base.specs.Views.{stream_view}
-use Rattle.stmt_sem.specs.BlockCode.{size_by}
+use Rattle.block_code.specs.BlockCode.{size_by}
 use Rattle.stmt_sem.specs.Bodies.{Built}
-use Rattle.stmt_sem.specs.Flows.{Run}
+use Rattle.block_code.specs.Flows.{Run}
 use Rattle.stmt_sem.specs.Stating.{block_at}
 use Rattle.stmt_sem.proofs.BodyStatements.{built_whole}
 use Rattle.stmt_sem.proofs.bodies.Body.end.Goals as goal

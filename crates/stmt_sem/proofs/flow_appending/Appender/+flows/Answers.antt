@@ -9,18 +9,18 @@ use Rattle.expr_sem.specs.Stacks.{ends_as}
 use Rattle.std.specs.Prelude.{OnOk, drop}
 use Rattle.code_form.specs.declared.instr.Instr.TheVariants.{Jump, JumpFalse}
 use Rattle.expr_sem.specs.Fragments.{part}
-use Rattle.expr_sem.specs.Parts.{plain, ◌⨟◌}
+use Rattle.block_code.specs.Parts.{plain, ◌⨟◌}
 use Rattle.expr_sem.specs.Pieces.{Appended, spot_of}
 use Rattle.expr_sem.specs.declared.pieces.With.{With}
 use Rattle.expr_sem.proofs.PieceParts.{Begins-refl, Begins-trans, then_on}
 use Rattle.stmt_sem.specs.FlowTrees.{IsArmOver, IsFormOver, IsOver, choice_among, code_by, flow_in, form_in, other_among}
-use Rattle.stmt_sem.specs.Statements.{flow_or_nothing}
+use Rattle.block_code.specs.Statements.{flow_or_nothing}
 use Rattle.stmt_sem.specs.declared.flows.Arm.{Arm, size-Arm}
 use Rattle.stmt_sem.specs.declared.flows.Flow.{Flow, size-Flow}
 use Rattle.stmt_sem.specs.declared.flows.FlowForm.TheVariants.{Block, Choice}
 use Rattle.stmt_sem.proofs.FlowDepths.{arms_smaller, entries_smaller}
 use Rattle.stmt_sem.specs.FlowSizes.{arms_bytes, block_bytes, code_bytes, fragment_bytes, somewhere}
-use Rattle.stmt_sem.specs.Flows.{Flow as FlowOf, part_at}
+use Rattle.block_code.specs.Flows.{Flow as FlowOf, part_at}
 use Rattle.stmt_sem.specs.declared.flows.FlowForm.{FlowForm}
 use Rattle.stmt_sem.proofs.FlowRows.{arms_of_choice, block_is, choice_is, entries_over, other_of_choice}
 use Rattle.stmt_sem.proofs.FlowsAppended.{all_appended, arm_appended, arm_at, behind_body, behind_entry, counted_on, each_at, entry_appended, entry_bytes, first_arm, for_ever_on, in_with_on, last_arm, rest_appended, until_on, while_on, with_cell_on}

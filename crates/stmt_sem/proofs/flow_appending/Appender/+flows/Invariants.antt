@@ -4,7 +4,7 @@ use Rattle.expr_sem.specs.Stacks.{ends_as}
 use Rattle.stmt_sem.specs.FlowTrees.{block_among, choice_among, other_among}
 use Rattle.stmt_sem.specs.FlowPieces.{Over}
 use Rattle.stmt_sem.specs.FlowSizes.{arms_bytes, block_bytes}
-use Rattle.stmt_sem.specs.Flows.{part_at}
+use Rattle.block_code.specs.Flows.{part_at}
 use Rattle.stmt_sem.proofs.flow_appending.Appender.+flows.Given as goal
 
 -- the bytes behind the entries so far, and with the entries that are left the piece is as if all were appended

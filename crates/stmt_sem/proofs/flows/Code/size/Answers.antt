@@ -4,8 +4,8 @@ use Rattle.code_form.specs.Bytes.{size}
 use Rattle.code_form.specs.Heights.{Step}
 use Rattle.code_form.specs.declared.instr.Instr.TheVariants.{Load, Local, Store}
 use Rattle.expr_sem.specs.Fragments.{part}
-use Rattle.expr_sem.specs.Parts.{plain, plain_step, ◌⨟◌}
-use Rattle.stmt_sem.specs.Cases.{labels_code}
+use Rattle.block_code.specs.Parts.{plain, plain_step, ◌⨟◌}
+use Rattle.block_code.specs.Cases.{labels_code}
 use Rattle.case_labels.specs.Seen.{test_seen}
 use Rattle.stmt_sem.specs.FlowTrees.{MeasuresPart, code_by}
 use Rattle.stmt_sem.specs.declared.flows.Code.{Code}

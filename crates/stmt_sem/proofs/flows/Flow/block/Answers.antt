@@ -1,7 +1,7 @@
 use Rattle.std.proofs.Common.{ℕ, ◌∙◌, ap, subst, sym}
 use Rattle.stmt_sem.specs.FlowTrees.{block_among}
 use Rattle.stmt_sem.specs.FlowSizes.{block_bytes}
-use Rattle.stmt_sem.specs.Flows.{Flow, HasSize}
+use Rattle.block_code.specs.Flows.{Flow, HasSize}
 use Rattle.stmt_sem.proofs.FlowRows.{block_is, block_over}
 use Rattle.stmt_sem.proofs.FlowsSized.{block_sized}
 use Rattle.stmt_sem.proofs.flows.Flow.block.Goals as goal

@@ -1,7 +1,7 @@
 use Rattle.std.proofs.Common.{◌∙◌, ℕ, ap, arith, subst, sym}
 use Rattle.stmt_sem.specs.FlowSizes.{arms_bytes}
 use Rattle.stmt_sem.specs.FlowTrees.{Measures, choice_among}
-use Rattle.stmt_sem.specs.Flows.{Flow, HasSize}
+use Rattle.block_code.specs.Flows.{Flow, HasSize}
 use Rattle.stmt_sem.proofs.FlowRows.{choice_is, choice_over}
 use Rattle.stmt_sem.proofs.FlowsSized.{choice_sized}
 use Rattle.stmt_sem.proofs.flows.Flow.choice.Goals as goal

@@ -1,6 +1,6 @@
 use Rattle.std.proofs.Common.{◌≡◌, ap, arith, subst, sym, ℕ}
 use Rattle.stmt_sem.specs.FlowTrees.{IsOver, flow_in}
-use Rattle.stmt_sem.specs.Flows.{HasSize, for_ever}
+use Rattle.block_code.specs.Flows.{HasSize, for_ever}
 use Rattle.stmt_sem.specs.declared.flows.Flow.{Flow}
 use Rattle.stmt_sem.proofs.FlowsSized.{for_ever_sized}
 use Rattle.stmt_sem.proofs.flows.Flow.for_ever.Goals as goal

@@ -1,7 +1,7 @@
 use Rattle.std.proofs.Common.{◌≡◌, ap, arith, subst, sym, ℕ}
 use Rattle.expr_sem.specs.Fragments.{part}
 use Rattle.stmt_sem.specs.FlowTrees.{IsOver, flow_in}
-use Rattle.stmt_sem.specs.Flows.{HasSize, until_true}
+use Rattle.block_code.specs.Flows.{HasSize, until_true}
 use Rattle.stmt_sem.specs.declared.flows.Flow.{Flow}
 use Rattle.stmt_sem.proofs.FlowsSized.{until_sized}
 use Rattle.stmt_sem.proofs.flows.Flow.until_true.Goals as goal

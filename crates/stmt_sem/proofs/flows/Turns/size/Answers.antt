@@ -1,7 +1,7 @@
 use Rattle.std.proofs.Common.{◌≡◌, ◌+◌, arith, subst, ℕ}
 use Rattle.expr_sem.specs.Fragments.{part}
 use Rattle.stmt_sem.specs.FlowTrees.{Measures, code_by, flow_in, turns_in}
-use Rattle.stmt_sem.specs.Flows.{HasSize}
+use Rattle.block_code.specs.Flows.{HasSize}
 use Rattle.stmt_sem.proofs.FlowsSized.{counted_sized, if_ok}
 use Rattle.stmt_sem.proofs.flows.Turns.size.Goals as goal
 

@@ -20,20 +20,20 @@ use Rattle.m2_base.proofs.Kept.{Works-trans}
 use Rattle.const_eval.proofs.Folding.{folded}
 use Rattle.const_eval.proofs.Sizes.{item_small}
 use Rattle.const_eval.proofs.TypesThere.{type_there}
-use Rattle.expr_sem.specs.Coded as coded
+use Rattle.block_code.specs.Coded as coded
 use Rattle.expr_sem.specs.Codings.{coded_in, with_types}
-use Rattle.expr_sem.specs.Expressions.{value}
+use Rattle.block_code.specs.Expressions.{value}
 use Rattle.expr_sem.specs.Fragments.{part}
 use Rattle.stmt_sem.specs.Flowings.{IsFlow}
 use Rattle.stmt_sem.specs.FlowTrees.{IsOver, flow_in}
 use Rattle.stmt_sem.specs.declared.flows.Flow.{Flow}
-use Rattle.stmt_sem.specs.Counting.{bound_value, control_variable, or_one}
-use Rattle.stmt_sem.specs.Flows as flow
-use Rattle.stmt_sem.specs.Flows.{for_ever, in_with, nothing, until_true, while_true, with_cell}
+use Rattle.block_code.specs.Counting.{bound_value, control_variable, or_one}
+use Rattle.block_code.specs.Flows as flow
+use Rattle.block_code.specs.Flows.{for_ever, in_with, nothing, until_true, while_true, with_cell}
 use Rattle.stmt_sem.specs.Stands.{stand_in}
 use Rattle.stmt_sem.specs.Stated.{AreArms, AreFlows, IsArm, IsOther, arm_in, arms_in, block_in, other_in}
 use Rattle.stmt_sem.specs.StatementParts.{case_of, otherwise, record_of, selector, statements_onto, stored_before, with_body}
-use Rattle.stmt_sem.specs.Statements.{Arm, arm_before, arm_flow, arm_of, arms_flow, by_of, case_flow, cases_flow, else_flow, else_of, flow_of, flow_or_nothing, for_flow, in_loop, statement_flow, test}
+use Rattle.block_code.specs.Statements.{Arm, arm_before, arm_flow, arm_of, arms_flow, by_of, case_flow, cases_flow, else_flow, else_of, flow_of, flow_or_nothing, for_flow, in_loop, statement_flow, test}
 use Rattle.stmt_sem.specs.Walkers.{Walks}
 use Rattle.stmt_sem.specs.declared.flows.Arm.{Arm as ArmMade}
 use Rattle.stmt_sem.specs.declared.flows.Code.TheVariants.{Fixed, Labels}

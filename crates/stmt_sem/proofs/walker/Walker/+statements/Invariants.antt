@@ -8,7 +8,7 @@ use Rattle.m2_base.specs.declared.trees.statements.Statement.{size-Statement}
 use Rattle.const_eval.proofs.Folding.{folded}
 use Rattle.stmt_sem.specs.Stands.{stand_in}
 use Rattle.stmt_sem.specs.Stated.{AreArms, AreFlows, arms_in, block_in}
-use Rattle.stmt_sem.specs.Statements.{arm_flow, case_flow, statement_flow}
+use Rattle.block_code.specs.Statements.{arm_flow, case_flow, statement_flow}
 use Rattle.stmt_sem.specs.Walkers.{Keeps, Walks}
 use Rattle.stmt_sem.proofs.CaseLists.{AreSoFar, so_far_in}
 use Rattle.stmt_sem.proofs.Flowed.{step}

@@ -3,18 +3,18 @@ use Rattle.m2_base.specs.Gives.{and_then, gives}
 use Rattle.m2_base.specs.Trees.{expr_at}
 use Rattle.m2_base.specs.Views.{designator_view, expr_view}
 use Rattle.const_eval.proofs.ReadParts.{at_seen}
-use Rattle.expr_sem.specs.Coded as code
+use Rattle.block_code.specs.Coded as code
 use Rattle.expr_sem.specs.Codings.{coded_in, with_types}
-use Rattle.expr_sem.specs.Expressions.{value}
+use Rattle.block_code.specs.Expressions.{value}
 use Rattle.expr_sem.proofs.Onwards.{coded_after}
 use Rattle.expr_sem.proofs.Operating.{coded_later}
 use Rattle.expr_sem.proofs.Sequencing.{Grows-trans}
 use Rattle.expr_sem.proofs.Walking.{stands_after}
-use Rattle.stmt_sem.specs.Assignments.{assignment}
-use Rattle.stmt_sem.specs.Flows.{straight}
+use Rattle.block_code.specs.Assignments.{assignment}
+use Rattle.block_code.specs.Flows.{straight}
 use Rattle.stmt_sem.specs.Stands.{stand_in}
 use Rattle.stmt_sem.specs.Stated.{answer_of}
-use Rattle.stmt_sem.specs.Statements.{variable}
+use Rattle.block_code.specs.Statements.{variable}
 use Rattle.stmt_sem.proofs.Flowed.{by_answer, described, flowing_after, made_after, of_coding, sound_after, unknown, unknown_after, unmade, unmade_after}
 use Rattle.stmt_sem.proofs.FlowsBehind.{stand_on, unknown_behind, unmade_behind}
 use Rattle.m2_base.proofs.Kept.{Works-trans}

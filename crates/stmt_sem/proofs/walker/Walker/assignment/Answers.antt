@@ -7,16 +7,16 @@ use Rattle.m2_base.specs.declared.replies.Ask.TheVariants.{Known}
 use Rattle.m2_base.specs.declared.rows.Place.{Place}
 use Rattle.const_eval.proofs.TypesThere.{type_there}
 use Rattle.type_rules.specs.Scenes.{IsThere}
-use Rattle.expr_sem.specs.Coded as code
+use Rattle.block_code.specs.Coded as code
 use Rattle.expr_sem.specs.Codings.{IsFragment, coded_in}
 use Rattle.expr_sem.specs.Fragments.{part}
-use Rattle.expr_sem.specs.Parts.{none}
-use Rattle.expr_sem.specs.Values.{assigned_to}
+use Rattle.block_code.specs.Parts.{none}
+use Rattle.block_code.specs.Values.{assigned_to}
 use Rattle.expr_sem.specs.declared.fragments.Fragment.TheVariants.{Nothing}
 use Rattle.expr_sem.proofs.Onwards.{coded_after, suits_after}
 use Rattle.expr_sem.proofs.Operating.{coded_later, coding_after, described, unknown, unmade, value_alone}
 use Rattle.expr_sem.proofs.Walking.{stands_after}
-use Rattle.stmt_sem.specs.Assignments.{store_code}
+use Rattle.block_code.specs.Assignments.{store_code}
 use Rattle.stmt_sem.proofs.walker.Walker.assignment.Goals as goal
 
 pub returns-then-is_bad-clause-codes : goal.returns-then-is_bad-clause-codes

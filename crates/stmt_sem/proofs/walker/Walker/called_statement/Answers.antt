@@ -4,12 +4,12 @@ use Rattle.m2_base.specs.Trees.{exprs}
 use Rattle.m2_base.specs.Views.{designator_view, expr_view}
 use Rattle.m2_base.specs.declared.replies.Ask.TheVariants.{Known}
 use Rattle.expr_sem.specs.Codings.{IsFragment, coded_in, with_types}
-use Rattle.expr_sem.specs.Expressions.{call_alone}
+use Rattle.block_code.specs.Expressions.{call_alone}
 use Rattle.expr_sem.specs.Fragments.{part}
 use Rattle.expr_sem.proofs.Operating.{coding_after, value_alone}
 use Rattle.expr_sem.proofs.Walking.{stands_after}
-use Rattle.stmt_sem.specs.Assignments.{code_unless_bad}
-use Rattle.stmt_sem.specs.Flows.{straight}
+use Rattle.block_code.specs.Assignments.{code_unless_bad}
+use Rattle.block_code.specs.Flows.{straight}
 use Rattle.stmt_sem.specs.StatementParts.{called}
 use Rattle.stmt_sem.specs.Stands.{stand_in}
 use Rattle.stmt_sem.proofs.Flowed.{by_answer, described, made_after, of_coding, unknown, unmade}

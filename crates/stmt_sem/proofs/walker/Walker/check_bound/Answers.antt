@@ -9,15 +9,15 @@ use Rattle.m2_base.specs.declared.rows.Place.{Place}
 use Rattle.const_eval.proofs.ReadParts.{at_seen}
 use Rattle.const_eval.proofs.TypesThere.{type_there}
 use Rattle.type_rules.specs.Scenes.{IsThere}
-use Rattle.expr_sem.specs.Coded.{in_error}
+use Rattle.block_code.specs.Coded.{in_error}
 use Rattle.expr_sem.specs.Codings.{coded_in, with_types}
-use Rattle.expr_sem.specs.Expressions.{value}
-use Rattle.expr_sem.specs.Values.{assigned_to}
+use Rattle.block_code.specs.Expressions.{value}
+use Rattle.block_code.specs.Values.{assigned_to}
 use Rattle.expr_sem.proofs.Onwards.{coded_after, suits_after}
 use Rattle.expr_sem.proofs.Operating.{coding_after, described, unknown, unmade}
 use Rattle.expr_sem.proofs.Selecting.{error_alone}
 use Rattle.expr_sem.proofs.Walking.{stands_after}
-use Rattle.stmt_sem.specs.Counting.{bound_value}
+use Rattle.block_code.specs.Counting.{bound_value}
 use Rattle.stmt_sem.proofs.FlowsBehind.{stand_on}
 use Rattle.stmt_sem.proofs.walker.Walker.check_bound.Goals as goal
 

@@ -11,15 +11,15 @@ use Rattle.m2_base.specs.declared.rows.Row.{Row}
 use Rattle.const_eval.specs.Analyses.{Analysed}
 use Rattle.type_rules.specs.Scenes.{IsRowOf}
 use Rattle.type_rules.specs.Sites.{SuitsSite, context_of}
-use Rattle.expr_sem.specs.Coded.{Coded, in_error}
+use Rattle.block_code.specs.Coded.{Coded, in_error}
 use Rattle.expr_sem.specs.Codings.{IsCoded, with_types}
-use Rattle.expr_sem.specs.Variables.{entry_coded}
+use Rattle.block_code.specs.Variables.{entry_coded}
 use Rattle.expr_sem.proofs.Making.{after_question, question_waits}
 use Rattle.expr_sem.proofs.Onwards.{holds_after, suits_after}
 use Rattle.expr_sem.proofs.Operating.{coding_after, described, of_analysed, unknown_after, unmade_after}
 use Rattle.expr_sem.proofs.Selecting.{error_alone, stays_read}
 use Rattle.expr_sem.proofs.Sequencing.{Grows-refl}
-use Rattle.stmt_sem.specs.Counting.{controls, controls_by}
+use Rattle.block_code.specs.Counting.{controls, controls_by}
 use Rattle.stmt_sem.proofs.LoopCases.{no_entry, withs_have}
 use Rattle.stmt_sem.proofs.walker.Walker.control_variable.Goals as goal
 

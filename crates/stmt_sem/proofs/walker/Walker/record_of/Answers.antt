@@ -6,8 +6,8 @@ use Rattle.expr_sem.proofs.Onwards.{suits_after}
 use Rattle.expr_sem.proofs.Operating.{coding_after, described, unknown, unmade}
 use Rattle.expr_sem.proofs.Walking.{stands_after}
 use Rattle.stmt_sem.specs.Stands.{stand_in}
-use Rattle.stmt_sem.specs.Statements.{variable}
-use Rattle.stmt_sem.specs.Withs.{record_variable}
+use Rattle.block_code.specs.Statements.{variable}
+use Rattle.block_code.specs.Withs.{record_variable}
 use Rattle.stmt_sem.proofs.walker.Walker.record_of.Goals as goal
 
 pub returns-in-DontKnowYet-clause-codes : goal.returns-in-DontKnowYet-clause-codes

@@ -1,8 +1,8 @@
 use Rattle.std.proofs.Common.{ap, option_map}
 use Rattle.m2_base.specs.Views.{expr_view}
-use Rattle.stmt_sem.specs.Flows.{straight}
+use Rattle.block_code.specs.Flows.{straight}
 use Rattle.stmt_sem.specs.Stands.{stand_in}
-use Rattle.stmt_sem.specs.Statements.{return_of}
+use Rattle.block_code.specs.Statements.{return_of}
 use Rattle.stmt_sem.proofs.Flowed.{by_answer, made_after, of_coding, unknown, unmade}
 use Rattle.stmt_sem.proofs.walker.Walker.return_statement.Goals as goal
 

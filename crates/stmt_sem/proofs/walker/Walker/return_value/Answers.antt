@@ -4,11 +4,11 @@ use Rattle.m2_base.specs.States.{Frame}
 use Rattle.m2_base.specs.Statics.Diagnostics.{not_assignable}
 use Rattle.type_rules.specs.Scenes.{IsThere}
 use Rattle.expr_sem.specs.Codings.{coded_in}
-use Rattle.expr_sem.specs.Values.{assigned_to}
+use Rattle.block_code.specs.Values.{assigned_to}
 use Rattle.expr_sem.proofs.Onwards.{holds_after, suits_after}
 use Rattle.expr_sem.proofs.Operating.{coding_after, described, unknown, unmade}
 use Rattle.expr_sem.proofs.Walking.{stands_after}
-use Rattle.stmt_sem.specs.Returns.{return_value, returned}
+use Rattle.block_code.specs.Returns.{return_value, returned}
 use Rattle.stmt_sem.proofs.LoopCases.{no_step}
 use Rattle.stmt_sem.proofs.walker.Walker.return_value.Goals as goal
 

@@ -4,11 +4,11 @@ use Rattle.m2_base.specs.Views.{expr_view}
 use Rattle.m2_base.specs.declared.trees.expressions.Expr.{Expr}
 use Rattle.const_eval.proofs.ReadParts.{at_seen}
 use Rattle.expr_sem.specs.Codings.{with_types}
-use Rattle.expr_sem.specs.Expressions.{value}
+use Rattle.block_code.specs.Expressions.{value}
 use Rattle.expr_sem.proofs.Operating.{coding_after, described}
-use Rattle.stmt_sem.specs.Returns.{return_value}
+use Rattle.block_code.specs.Returns.{return_value}
 use Rattle.stmt_sem.specs.Stands.{stand_in}
-use Rattle.stmt_sem.specs.Statements.{return_of}
+use Rattle.block_code.specs.Statements.{return_of}
 use Rattle.stmt_sem.proofs.FlowsBehind.{stand_on}
 use Rattle.stmt_sem.proofs.walker.Walker.returned.Goals as goal
 

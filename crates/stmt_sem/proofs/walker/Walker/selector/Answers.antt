@@ -4,14 +4,14 @@ use Rattle.m2_base.specs.Views.{expr_view}
 use Rattle.m2_base.specs.declared.rows.Place.{Place}
 use Rattle.const_eval.proofs.ReadParts.{at_seen}
 use Rattle.expr_sem.specs.Codings.{coded_in, with_types}
-use Rattle.expr_sem.specs.Expressions.{value}
-use Rattle.expr_sem.specs.Parts.{Part}
+use Rattle.block_code.specs.Expressions.{value}
+use Rattle.block_code.specs.Parts.{Part}
 use Rattle.expr_sem.proofs.Following.{by_coding, followed_by, then_unknown, then_wanted}
 use Rattle.expr_sem.proofs.Onwards.{coded_after, suits_after, with_grown}
 use Rattle.expr_sem.proofs.Operating.{coding_after, described, unknown, unmade}
 use Rattle.expr_sem.proofs.Sequencing.{Grows-refl}
 use Rattle.expr_sem.proofs.Walking.{stands_after}
-use Rattle.stmt_sem.specs.Cases.{selector_type, selector_value}
+use Rattle.block_code.specs.Cases.{selector_type, selector_value}
 use Rattle.stmt_sem.specs.Stands.{stand_in}
 use Rattle.stmt_sem.specs.StatementParts.{typed_selector}
 use Rattle.stmt_sem.specs.Taken.{IsSelector, selector_in}

@@ -7,11 +7,11 @@ use Rattle.m2_base.specs.Statics.Operations.{is_boolean}
 use Rattle.m2_base.specs.Views.{expr_view}
 use Rattle.const_eval.proofs.ReadParts.{at_seen}
 use Rattle.type_rules.specs.Sites.{SuitsSite, context_of}
-use Rattle.expr_sem.specs.Coded.{value_code}
+use Rattle.block_code.specs.Coded.{value_code}
 use Rattle.expr_sem.specs.Codings.{IsCoded, IsFragment, coded_in, with_types}
-use Rattle.expr_sem.specs.Expressions.{value}
+use Rattle.block_code.specs.Expressions.{value}
 use Rattle.expr_sem.specs.Fragments.{part}
-use Rattle.expr_sem.specs.Parts.{none}
+use Rattle.block_code.specs.Parts.{none}
 use Rattle.expr_sem.specs.declared.fragments.Fragment.TheVariants.{Nothing}
 use Rattle.expr_sem.proofs.Following.{by_coding, then_waits}
 use Rattle.expr_sem.proofs.Making.{after_question, made_alone}
@@ -20,7 +20,7 @@ use Rattle.expr_sem.proofs.Operating.{coding_after, described, unknown, unmade}
 use Rattle.expr_sem.proofs.Refusing.{not_noted, refused_here}
 use Rattle.expr_sem.proofs.Selecting.{stays_read}
 use Rattle.expr_sem.proofs.Walking.{stands_after}
-use Rattle.stmt_sem.specs.Tests.{false_code, test_code}
+use Rattle.block_code.specs.Tests.{false_code, test_code}
 use Rattle.stmt_sem.proofs.walker.Walker.test.Goals as goal
 
 pub returns-in-DontKnowYet-clause-codes : goal.returns-in-DontKnowYet-clause-codes

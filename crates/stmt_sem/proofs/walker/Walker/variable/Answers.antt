@@ -3,10 +3,10 @@ use Rattle.m2_base.specs.Gives.{and_then}
 use Rattle.m2_base.specs.Views.{designator_view}
 use Rattle.const_eval.proofs.ReadParts.{designator_at_seen}
 use Rattle.expr_sem.specs.Codings.{with_types}
-use Rattle.expr_sem.specs.Expressions.{designated}
+use Rattle.block_code.specs.Expressions.{designated}
 use Rattle.expr_sem.proofs.Operating.{coding_after, described, unknown, unmade}
 use Rattle.expr_sem.proofs.Walking.{stands_after}
-use Rattle.expr_sem.specs.StandardFunctions.{as_variable}
+use Rattle.block_code.specs.StandardFunctions.{as_variable}
 use Rattle.stmt_sem.proofs.walker.Walker.variable.Goals as goal
 
 pub returns-in-DontKnowYet-clause-codes : goal.returns-in-DontKnowYet-clause-codes
