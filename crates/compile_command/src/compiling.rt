@@ -2,15 +2,13 @@
 ghost use Rattle.std.specs.Prelude.{◌≡◌, ◌↔◌, ◌⊎◌, ◌≤◌, ◌<◌, Some, IfOk, IfSome, IsErrOf, OnErr, length};
 ghost use Rattle.m2_base.specs.Units.{IsIdentifier};
 ghost use Rattle.m2_io.specs.Causes.{Rose};
-ghost use Rattle.compile_command.specs.Answers.{Comes};
-ghost use Rattle.compile_command.specs.declared.answer.Answer.{Answer as AnswerOf};
-ghost use Rattle.compile_command.specs.Outcome.{Compiles, HasObject, KeepsButObject, Leaves, PrintsPart};
+ghost use Rattle.module_outcome.specs.Answers.{Comes};
+ghost use Rattle.module_outcome.specs.declared.answer.Answer.{Answer as AnswerOf};
+ghost use Rattle.module_outcome.specs.Outcome.{Compiles, HasObject, KeepsButObject, Leaves, PrintsPart};
 
-use crate::answer::{Answer, Stop};
-use crate::delivering::deliver;
 use crate::judging::judge;
-use crate::laws::one_outcome;
 use m2_io::{Gate, Shelf, Sink};
+use module_outcome::{Answer, Stop, deliver, one_outcome};
 use std::alloc::Global;
 use std::sync::Wait;
 use std::thread::Threads;

@@ -3,12 +3,12 @@ use Rattle.std.proofs.Common.{◌≡◌, ◌↔◌, ℕ, List, Option, Result, O
 use Rattle.m2_io.specs.Files.{Files}
 use Rattle.m2_io.specs.Written.{WritesPart}
 use Rattle.command_words.specs.Command.{Command, big, compile, dump, run}
-use Rattle.compile_command.specs.Answers.{Comes}
-use Rattle.compile_command.specs.Big.{LeavesSummary, PrintsSummaryPart, Summarizes}
-use Rattle.compile_command.specs.Outcome.{Compiles, Leaves as CompileLeaves, PrintsPart as CompilePart}
-use Rattle.compile_command.specs.declared.answer.Answer.{Answer as CompileAnswer}
-use Rattle.compile_command.specs.declared.answer.Stop.TheVariants as compile_stop
-use Rattle.compile_command.specs.declared.answer.Stop.{Stop as CompileStop}
+use Rattle.module_outcome.specs.Answers.{Comes}
+use Rattle.module_outcome.specs.Big.{LeavesSummary, PrintsSummaryPart, Summarizes}
+use Rattle.module_outcome.specs.Outcome.{Compiles, Leaves as CompileLeaves, PrintsPart as CompilePart}
+use Rattle.module_outcome.specs.declared.answer.Answer.{Answer as CompileAnswer}
+use Rattle.module_outcome.specs.declared.answer.Stop.TheVariants as compile_stop
+use Rattle.module_outcome.specs.declared.answer.Stop.{Stop as CompileStop}
 use Rattle.object_commands.specs.Dumps.{Dumps}
 use Rattle.object_commands.specs.Outcomes.{Leaves as RunLeaves, LeavesPart, Prints, PrintsPart as DumpPart}
 use Rattle.object_commands.specs.Runs.{Runs}

@@ -3,8 +3,8 @@ use Rattle.std.proofs.Common.{◌≡◌, ℕ, List, Some, refl}
 use Rattle.std.specs.FinMap.{insert}
 use Rattle.m2_io.specs.Files.{Files}
 use Rattle.object_file.specs.Contents.{object_bytes}
-use Rattle.compile_command.specs.Outcome.{Compiles, Outcome, as_decided}
-use Rattle.compile_command.specs.Verdicts.{Decision, files_after, limited, listed, no_text, object, object_name}
+use Rattle.module_outcome.specs.Outcome.{Compiles, Outcome, as_decided}
+use Rattle.module_outcome.specs.Verdicts.{Decision, files_after, limited, listed, no_text, object, object_name}
 
 after_told : (files : Files) (name : List ℕ) (d : Decision) → (after : Files) × (files_after name d (Some files) ≡ Some after)
 after_told files name no_text = (files, refl)

@@ -3,9 +3,9 @@ use Rattle.std.proofs.Common.{◌≡◌, ◌⊎◌, ◌∙◌, ◌==◌, inl, in
 use Rattle.std.specs.Prelude.{IsErrOf}
 use Rattle.m2_io.specs.Files.{Files}
 use Rattle.command_words.specs.Command.{Command, IsNoCommand, big, compile, dump, run}
-use Rattle.compile_command.specs.Answers.{Comes}
-use Rattle.compile_command.specs.declared.answer.Answer.{Answer as CompileAnswer}
-use Rattle.compile_command.specs.declared.answer.Answer.TheVariants as compiling
+use Rattle.module_outcome.specs.Answers.{Comes}
+use Rattle.module_outcome.specs.declared.answer.Answer.{Answer as CompileAnswer}
+use Rattle.module_outcome.specs.declared.answer.Answer.TheVariants as compiling
 use Rattle.object_commands.specs.declared.answer.Answer.{Answer as ObjectAnswer}
 use Rattle.object_commands.specs.declared.answer.Answer.TheVariants as objects
 use Rattle.m2c_top.specs.Ending.{IsWellEnded, ended_as}

@@ -4,12 +4,12 @@ use Rattle.std.specs.Prelude.{IsErrOf}
 use Rattle.std.proofs.lemmas.List.{take_all}
 use Rattle.m2_io.specs.Files.{Files, with_file}
 use Rattle.object_file.specs.Contents.{object_bytes}
-use Rattle.compile_command.specs.Decisions.{Decides}
-use Rattle.compile_command.specs.Outcome.{Compiles, KeepsButObject, Leaves, Outcome, as_decided, keeps_all, puts_part}
-use Rattle.compile_command.specs.Verdicts.{Decision, files_after, limited, listed, no_text, object, object_name}
-use Rattle.compile_command.specs.declared.answer.Answer.{Answer}
-use Rattle.compile_command.specs.declared.answer.Stop.TheVariants as stop
-use Rattle.compile_command.specs.declared.answer.Stop.{Stop}
+use Rattle.module_outcome.specs.Decisions.{Decides}
+use Rattle.module_outcome.specs.Outcome.{Compiles, KeepsButObject, Leaves, Outcome, as_decided, keeps_all, puts_part}
+use Rattle.module_outcome.specs.Verdicts.{Decision, files_after, limited, listed, no_text, object, object_name}
+use Rattle.module_outcome.specs.declared.answer.Answer.{Answer}
+use Rattle.module_outcome.specs.declared.answer.Stop.TheVariants as stop
+use Rattle.module_outcome.specs.declared.answer.Stop.{Stop}
 
 module _ (name : List ℕ) (holds after : Option Files) where
   decided_keeps : (d : Decision) → Decides holds name d → after ≡ files_after name d holds → KeepsButObject name holds after

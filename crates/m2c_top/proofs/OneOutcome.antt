@@ -3,9 +3,9 @@ use Rattle.std.proofs.Common.{◌≡◌, ℕ, List, Option, Some, refl, sym, ◌
 use Rattle.m2_io.specs.Files.{Files}
 use Rattle.command_words.specs.Command.{Command, big, compile, dump, run}
 use Rattle.command_words.proofs.OneCommand.{one_command_lem}
-use Rattle.compile_command.specs.Big.{Summarizes}
-use Rattle.compile_command.specs.Outcome.{Compiles, Outcome as CompileOutcome}
-use Rattle.compile_command.specs.declared.answer.Answer.{Answer as CompileAnswer}
+use Rattle.module_outcome.specs.Big.{Summarizes}
+use Rattle.module_outcome.specs.Outcome.{Compiles, Outcome as CompileOutcome}
+use Rattle.module_outcome.specs.declared.answer.Answer.{Answer as CompileAnswer}
 use Rattle.object_commands.specs.Dumps.{Dumps}
 use Rattle.object_commands.specs.Outcomes.{Outcome as ObjectOutcome}
 use Rattle.object_commands.specs.Runs.{Runs}

@@ -2,10 +2,10 @@
 -- and what is left of the input.
 use Rattle.std.specs.Prelude.{◌≡◌, ℕ, List, Option, Some, codes}
 use Rattle.command_words.specs.Command.{Asks, Command, IsNoCommand, big, compile, dump, run}
-use Rattle.compile_command.specs.Big.{Summarizes}
-use Rattle.compile_command.specs.Lines.{line}
-use Rattle.compile_command.specs.Outcome.{Compiles, Outcome as CompileOutcome}
-use Rattle.compile_command.specs.declared.answer.Answer.{Answer as CompileAnswer}
+use Rattle.module_outcome.specs.Big.{Summarizes}
+use Rattle.module_outcome.specs.Lines.{line}
+use Rattle.module_outcome.specs.Outcome.{Compiles, Outcome as CompileOutcome}
+use Rattle.module_outcome.specs.declared.answer.Answer.{Answer as CompileAnswer}
 use Rattle.m2_io.specs.Files.{Files}
 use Rattle.m2_io.specs.Written.{WritesPart, with_bytes}
 use Rattle.object_commands.specs.Dumps.{Dumps}

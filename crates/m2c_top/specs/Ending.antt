@@ -1,9 +1,9 @@
 -- The status that the work ended with.
 use Rattle.std.specs.Prelude.{◌≡◌, ◌⊎◌, ℕ, List, Result, Ok, Err}
 use Rattle.command_words.specs.Command.{Asks, Command, IsNoCommand}
-use Rattle.compile_command.specs.declared.answer.Answer.{Answer as CompileAnswer}
-use Rattle.compile_command.specs.declared.answer.Stop.TheVariants as compiling
-use Rattle.compile_command.specs.declared.answer.Stop.{Stop as CompileStop}
+use Rattle.module_outcome.specs.declared.answer.Answer.{Answer as CompileAnswer}
+use Rattle.module_outcome.specs.declared.answer.Stop.TheVariants as compiling
+use Rattle.module_outcome.specs.declared.answer.Stop.{Stop as CompileStop}
 use Rattle.object_commands.specs.declared.answer.Answer.{Answer as ObjectAnswer}
 use Rattle.object_commands.specs.declared.answer.Stop.TheVariants as objects
 use Rattle.object_commands.specs.declared.answer.Stop.{Stop as ObjectStop}

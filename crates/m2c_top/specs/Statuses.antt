@@ -1,9 +1,9 @@
 -- The statuses, and when one is answered.
 use Rattle.std.specs.Prelude.{◌≡◌, ◌↔◌, ◌⊎◌, ℕ, List}
 use Rattle.command_words.specs.Command.{Command, big, compile}
-use Rattle.compile_command.specs.Answers.{Comes}
-use Rattle.compile_command.specs.declared.answer.Answer.{Answer as CompileAnswer}
-use Rattle.compile_command.specs.declared.answer.Answer.TheVariants as compiling
+use Rattle.module_outcome.specs.Answers.{Comes}
+use Rattle.module_outcome.specs.declared.answer.Answer.{Answer as CompileAnswer}
+use Rattle.module_outcome.specs.declared.answer.Answer.TheVariants as compiling
 use Rattle.m2_io.specs.Files.{Files}
 use Rattle.object_commands.specs.declared.answer.Answer.{Answer as ObjectAnswer}
 use Rattle.object_commands.specs.declared.answer.Answer.TheVariants as objects

@@ -2,9 +2,9 @@
 ghost use Rattle.std.specs.Prelude.{◌≡◌, ◌≤◌, ◌⊎◌, IfErr, List, Option, map, string_bytes, IfOk, OnOk, OnErr, IsErrOf};
 ghost use Rattle.std.specs.Prelude.{IfSome};
 ghost use Rattle.command_words.specs.Command.{IsNoCommand, IsSound, command_of};
-ghost use Rattle.compile_command.specs.Answers.{Comes};
-ghost use Rattle.compile_command.specs.declared.answer.Answer.TheVariants.{Diagnosed, Done, NoText, OverLimit};
-ghost use Rattle.compile_command.specs.Outcome.{HasObject, KeepsButObject};
+ghost use Rattle.module_outcome.specs.Answers.{Comes};
+ghost use Rattle.module_outcome.specs.declared.answer.Answer.TheVariants.{Diagnosed, Done, NoText, OverLimit};
+ghost use Rattle.module_outcome.specs.Outcome.{HasObject, KeepsButObject};
 ghost use Rattle.m2_io.specs.Causes.{Rose};
 ghost use Rattle.m2_io.specs.Written.{with_bytes, WritesPart};
 ghost use Rattle.object_commands.specs.Outcomes.{ReadsPart};

@@ -1,5 +1,5 @@
-use Rattle.compile_command.proofs.Leaving.{on_err}
-use Rattle.compile_command.proofs.Summing.{leaves_summary, prints_no_summary, prints_summary_part}
+use Rattle.module_outcome.proofs.Leaving.{on_err}
+use Rattle.module_outcome.proofs.Summing.{leaves_summary, prints_no_summary, prints_summary_part}
 use Rattle.compile_command.proofs.big.compile_big.Goals as goal
 
 pub returns-in_err-summary-clause-prints : goal.returns-in_err-summary-clause-prints

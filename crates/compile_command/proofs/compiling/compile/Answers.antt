@@ -1,8 +1,8 @@
 use Rattle.std.proofs.Common.{ℕ, ◌⊎◌, subst}
 use Rattle.m2_io.specs.Causes.{Rose}
-use Rattle.compile_command.specs.Verdicts.{decision_of}
-use Rattle.compile_command.proofs.Answering.{answers_come}
-use Rattle.compile_command.proofs.Leaving.{has_its_object, keeps_but_object, leaves, on_err, prints_nothing, prints_part}
+use Rattle.module_outcome.specs.Verdicts.{decision_of}
+use Rattle.module_outcome.proofs.Answering.{answers_come}
+use Rattle.module_outcome.proofs.Leaving.{has_its_object, keeps_but_object, leaves, on_err, prints_nothing, prints_part}
 use Rattle.compile_command.proofs.compiling.compile.Goals as goal
 
 pub returns-in_err-verdict-clause-prints : goal.returns-in_err-verdict-clause-prints

@@ -1,7 +1,7 @@
 use Rattle.std.proofs.Common.{Err, ap}
-use Rattle.compile_command.specs.Decisions.{has_wrong_imports}
-use Rattle.compile_command.specs.Verdicts.{decision_of}
-use Rattle.compile_command.proofs.Deciding.{fault_decides, whole_decides, whole_named}
+use Rattle.module_outcome.specs.Decisions.{has_wrong_imports}
+use Rattle.module_outcome.specs.Verdicts.{decision_of}
+use Rattle.module_outcome.proofs.Deciding.{fault_decides, whole_decides, whole_named}
 use Rattle.compile_command.proofs.judging.judge.Goals as goal
 
 pub returns-in_ok-judge_unit-in-Ok-Whole-clause-decides : goal.returns-in_ok-judge_unit-in-Ok-Whole-clause-decides

@@ -1,7 +1,7 @@
 use Rattle.m2_base.specs.Units.{Front, TextOf}
 use Rattle.merge_laws.specs.Texts.{IsWhole}
 use Rattle.unit_merge.specs.declared.merging.Merged.TheVariants.{Code, Diags, TooDeep}
-use Rattle.compile_command.proofs.Merging.{merged_decides, merged_named}
+use Rattle.module_outcome.proofs.Merging.{merged_decides, merged_named}
 use Rattle.compile_command.proofs.judging.judge_streams.Goals as goal
 
 pub work-requires-clause-whole : goal.work-requires-clause-whole

@@ -1,5 +1,5 @@
 use Rattle.m2_base.specs.Statics.BlockLimits.{too_deep_procedure, too_many_procedures}
-use Rattle.compile_command.specs.Decisions.{passes_procedures}
+use Rattle.module_outcome.specs.Decisions.{passes_procedures}
 use Rattle.compile_command.proofs.judging.judge_unit.Goals as goal
 
 pub returns-in-Err-TooManyStreams-clause-decides : goal.returns-in-Err-TooManyStreams-clause-decides

@@ -1,5 +1,5 @@
 use Rattle.std.proofs.Common.{Err, ap, refl, ◌∙◌}
-use Rattle.compile_command.proofs.Tellings.{fault_tells, whole_tells, wrong_tells}
+use Rattle.module_outcome.proofs.Tellings.{fault_tells, whole_tells, wrong_tells}
 use Rattle.compile_command.proofs.telling.tell.Goals as goal
 
 pub gather_text-requires-clause-named : goal.gather_text-requires-clause-named

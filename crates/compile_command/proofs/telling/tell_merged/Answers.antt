@@ -1,6 +1,6 @@
 use Rattle.std.proofs.Common.{◌≡◌, arith, length, refl}
-use Rattle.compile_command.specs.Counts.{diagnostic_counts, object_counts}
-use Rattle.compile_command.proofs.Tellings.{same_counts, tells_diagnostics, tells_nesting, tells_object}
+use Rattle.module_outcome.specs.Counts.{diagnostic_counts, object_counts}
+use Rattle.module_outcome.proofs.Tellings.{same_counts, tells_diagnostics, tells_nesting, tells_object}
 use Rattle.compile_command.proofs.telling.tell_merged.Goals as goal
 
 pub returns-in_ok-code-in-Code : goal.returns-in_ok-code-in-Code

@@ -1,7 +1,7 @@
 use Rattle.m2_base.specs.Statics.BlockLimits.{too_deep_procedure, too_many_procedures}
-use Rattle.compile_command.specs.Decisions.{passes_procedures}
-use Rattle.compile_command.specs.declared.limit.Limit.TheVariants.{Procedures, StaticLevel}
-use Rattle.compile_command.proofs.Tellings.{tells_limit}
+use Rattle.module_outcome.specs.Decisions.{passes_procedures}
+use Rattle.module_outcome.specs.declared.limit.Limit.TheVariants.{Procedures, StaticLevel}
+use Rattle.module_outcome.proofs.Tellings.{tells_limit}
 use Rattle.compile_command.proofs.telling.tell_unit.Goals as goal
 
 pub returns-in-Err-TooManyStreams-clause-tells : goal.returns-in-Err-TooManyStreams-clause-tells

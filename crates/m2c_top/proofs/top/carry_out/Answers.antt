@@ -1,6 +1,6 @@
 use Rattle.std.proofs.Common.{◌<◌, ◌≤◌, ap, inr, subst, sym}
 use Rattle.command_words.specs.Command.{IsSound, big, command_of, compile}
-use Rattle.compile_command.specs.Outcome.{KeepsButObject}
+use Rattle.module_outcome.specs.Outcome.{KeepsButObject}
 use Rattle.m2c_top.specs.Effects.{IsToCompile}
 use Rattle.m2c_top.proofs.Carrying.{ComesDone, LeavesDone, PrintsDone, compiled_comes, compiled_leaves, compiled_prints, counted_comes, counted_leaves, counted_prints, dumped_comes, dumped_leaves, dumped_prints, ran_comes, ran_leaves, ran_prints}
 use Rattle.m2c_top.proofs.Keeping.{compiling_keeps}

@@ -1,7 +1,7 @@
 use Rattle.std.proofs.Common.{◌≡◌, ◌⊎◌, Option, List, ℕ, map, string_bytes, subst, sym, IfOk, IfSome}
 use Rattle.std.specs.Prelude.{IsErrOf}
 use Rattle.m2_io.specs.Causes.{Rose}
-use Rattle.compile_command.specs.Outcome.{HasObject}
+use Rattle.module_outcome.specs.Outcome.{HasObject}
 use Rattle.m2c_top.specs.Effects.{AsksToCompile, AsksToRun, Gives, HasInput, Leaves, ToCompile}
 use Rattle.m2c_top.specs.Ending.{IsWellEnded}
 use Rattle.m2c_top.specs.Statuses.{IsCompiledAs, status_number}

@@ -2,10 +2,10 @@ use Rattle.std.proofs.Common.{◌≡◌, ◌⊎◌, ◌∙◌, sym, ap, subst, m
 use Rattle.m2_io.specs.Causes.{Rose}
 use Rattle.command_words.specs.Command.{IsNoCommand}
 use Rattle.m2c_top.specs.Effects.{AsksToCompile, AsksToRun, Gives, HasInput, Leaves, PrintsPart, ToCompile}
-use Rattle.compile_command.specs.Answers.{Comes}
-use Rattle.compile_command.specs.declared.answer.Answer.{Answer as CompileAnswer}
-use Rattle.compile_command.specs.declared.answer.Answer.TheVariants.{Diagnosed, Done, NoText, OverLimit}
-use Rattle.compile_command.specs.Outcome.{HasObject, KeepsButObject}
+use Rattle.module_outcome.specs.Answers.{Comes}
+use Rattle.module_outcome.specs.declared.answer.Answer.{Answer as CompileAnswer}
+use Rattle.module_outcome.specs.declared.answer.Answer.TheVariants.{Diagnosed, Done, NoText, OverLimit}
+use Rattle.module_outcome.specs.Outcome.{HasObject, KeepsButObject}
 use Rattle.m2c_top.specs.Statuses.{status_compiled, status_number, IsFault, IsStatus, Exactly}
 use Rattle.m2c_top.proofs.Ends.{number_of, ends_done, ends_leaving, ends_exactly, ends_as_no_command, ends_with_status, ends_stopped, ends_by_reading, ends_by_writing, ends_handed, ends_keeping}
 use Rattle.m2c_top.proofs.top.m2c.Given as given

@@ -3,7 +3,7 @@ use Rattle.command_words.proofs.Asked.{asked_sound}
 use Rattle.command_words.specs.Command.{command_of}
 use Rattle.m2c_top.proofs.Asking.{commanded_comes, or_asks, usage_comes}
 use Rattle.m2c_top.proofs.Obeying.{commanded_leaves, commanded_object, commanded_prints, nothing_printed, nothing_read, usage_leaves, usage_prints}
-use Rattle.compile_command.specs.Outcome.{HasObject, KeepsButObject}
+use Rattle.module_outcome.specs.Outcome.{HasObject, KeepsButObject}
 use Rattle.m2c_top.proofs.top.obey.Goals as goal
 
 pub carry_out-requires-clause-sound : goal.carry_out-requires-clause-sound

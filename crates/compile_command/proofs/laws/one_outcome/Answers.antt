@@ -1,5 +1,0 @@
-use Rattle.compile_command.proofs.OneOutcome.{one_compiled}
-use Rattle.compile_command.proofs.laws.one_outcome.Goals as goal
-
-pub returns : goal.returns
-returns c = one_compiled c.given_files_have_one_outcome.ensures.from_files c.whole_units_have_one_outcome.ensures

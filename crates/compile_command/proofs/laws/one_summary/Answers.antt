@@ -1,5 +1,0 @@
-use Rattle.compile_command.proofs.OneSummary.{one_summarized}
-use Rattle.compile_command.proofs.laws.one_summary.Goals as goal
-
-pub returns : goal.returns
-returns c = one_summarized c.given_files_have_one_outcome.ensures.of_text c.whole_units_have_one_outcome.ensures
