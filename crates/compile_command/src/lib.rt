@@ -16,5 +16,4 @@ mod work;
 
 pub use big::compile_big;
 pub use compiling::compile;
-pub use module_outcome::{Answer, Stop};
 pub use unit_workers::Crew;

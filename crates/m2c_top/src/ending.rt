@@ -4,7 +4,7 @@ ghost use Rattle.m2c_top.specs.Ending.{ended_as, ended_compiling as spec_compili
 ghost use Rattle.m2c_top.specs.Statuses.{status_after as spec_after, status_compiled as spec_compiled};
 
 use crate::status::Status;
-use compile_command as compiling;
+use module_outcome as compiling;
 use object_commands as objects;
 
 /// Why the work was given up.

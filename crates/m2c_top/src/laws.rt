@@ -8,6 +8,6 @@ pub fn one_outcome()
     ensures { (words : List (List ℕ)) (files : Files) (left : Option (List ℕ)) (these those : Effect)
         → Gives words files left these → Gives words files left those → these ≡ those }
 {
-    compile_command::one_outcome();
-    compile_command::one_summary();
+    module_outcome::one_outcome();
+    module_outcome::one_summary();
 }
