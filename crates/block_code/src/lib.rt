@@ -8,7 +8,8 @@
 //! the language has a file of its own below them.
 //!
 //! Nothing here runs: `expr_sem` and `stmt_sem` make this code. The laws hold of the definitions alone, and are the
-//! contracts of functions that do nothing: heights are right, code is short and valid, and what is in error has no code.
+//! contracts of functions that do nothing: heights are right, code is short and valid, and what is in error has no
+//! code.
 #![tactic(auto)]
 
 pub mod expressions;

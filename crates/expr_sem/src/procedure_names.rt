@@ -10,6 +10,7 @@ ghost use Rattle.expr_sem.specs.Fragments.{part};
 ghost use Rattle.block_code.specs.ProcedureNames.{import_number as spec_import_number, import_of_target as spec_import};
 ghost use Rattle.block_code.specs.ProcedureNames.{is_foreign as spec_foreign, is_own as spec_own};
 ghost use Rattle.block_code.specs.ProcedureNames.{is_own_definition as spec_own_definition, procedure_code as spec_code};
+ghost use Rattle.block_code.specs.ProcedureNames.{};
 ghost use Rattle.block_code.specs.ProcedureNames.{target_of_procedure as spec_target};
 ghost use Rattle.expr_sem.specs.Targets.{target_view};
 ghost use Rattle.type_rules.specs.Asks.{Reads};

@@ -20,6 +20,7 @@ ghost use Rattle.block_code.specs.Operators.{made as spec_made};
 ghost use Rattle.block_code.specs.StandardFunctions.{as_variable as spec_variable, function_of_one as spec_one};
 ghost use Rattle.block_code.specs.StandardFunctions.{high_code as spec_high};
 ghost use Rattle.block_code.specs.StandardFunctions.{high_of_range as spec_range, high_of_variable as spec_high_variable};
+ghost use Rattle.block_code.specs.StandardFunctions.{};
 ghost use Rattle.block_code.specs.StandardFunctions.{size_code as spec_size};
 ghost use Rattle.expr_sem.specs.declared.fragments.Node.{Node};
 ghost use Rattle.type_rules.specs.Sites.{SuitsSite};

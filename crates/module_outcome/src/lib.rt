@@ -2,10 +2,10 @@
 //!
 //! What is decided of a module is decided by the texts as they stand (`specs/Decisions`), one case for each kind of
 //! it; what goes with a decision is `specs/Verdicts`, and `specs/Outcome` puts both together. A `Verdict` has what was
-//! decided, with what goes with it in hand: `deliver` puts the object, or prints the listing, the limit that is passed, or
-//! that there is no text. What is counted of the module Big is `specs/Big` and `specs/Counts`, and `print_summary` prints
-//! it. Nothing here works on streams: who does is the layer above. The law `one_outcome` says that a module has one
-//! outcome over given files.
+//! decided, with what goes with it in hand: `deliver` puts the object, or prints the listing, the limit that is
+//! passed, or that there is no text. What is counted of the module Big is `specs/Big` and `specs/Counts`, and
+//! `print_summary` prints it. Nothing here works on streams: who does is the layer above. The law `one_outcome` says
+//! that a module has one outcome over given files.
 #![tactic(auto)]
 
 mod answer;
