@@ -3,6 +3,9 @@
 //! A tree has one field for each part of its rule. `at` is the number of the first token, of an operator its
 //! own, of an empty statement the token after it. Empty variants, field lists and arms leave no entry, nor do
 //! round brackets. `specs/Trees` has the same trees as plain data, and `specs/Views` says what is seen of these.
+//!
+//! Most structs have a `drop` of their own, which their owners call. A derived one would stand anew in each function
+//! that may drop the struct, with all that it owns, and be proved there.
 mod declarations;
 mod expressions;
 mod operators;

@@ -13,7 +13,6 @@ pub enum StreamKind {
 }
 
 /// The tree of one stream.
-#[derive(Drop)]
 pub struct Stream {
     pub kind: StreamKind,
     pub implementation: bool,
@@ -27,11 +26,31 @@ pub struct Stream {
     pub close: Ident,
 }
 
+impl Drop for Stream {
+    fn drop(self) {
+        let Stream {
+            kind: _,
+            implementation: _,
+            name: _,
+            imports: _,
+            heading: _,
+            decls: _,
+            body: _,
+            close: _,
+        } = self;
+    }
+}
+
 /// Names of modules, or after FROM names of that module.
-#[derive(Drop)]
 pub struct Import {
     pub from: Option<Ident>,
     pub names: Vec<Ident>,
+}
+
+impl Drop for Import {
+    fn drop(self) {
+        let Import { from: _, names: _ } = self;
+    }
 }
 
 /// A declaration.
@@ -45,18 +64,37 @@ pub enum Decl {
 }
 
 /// The heading of a procedure.
-#[derive(Drop)]
 pub struct Heading {
     pub name: Ident,
     pub sections: Vec<Section>,
     pub result: Option<Qual>,
 }
 
+impl Drop for Heading {
+    fn drop(self) {
+        let Heading {
+            name: _,
+            sections: _,
+            result: _,
+        } = self;
+    }
+}
+
 /// Parameters of one mode and one type.
-#[derive(Drop)]
 pub struct Section {
     pub by_ref: bool,
     pub names: Vec<Ident>,
     pub is_open: bool,
     pub of: Qual,
+}
+
+impl Drop for Section {
+    fn drop(self) {
+        let Section {
+            by_ref: _,
+            names: _,
+            is_open: _,
+            of: _,
+        } = self;
+    }
 }

@@ -4,10 +4,16 @@ use crate::trees::operators::Operator;
 
 /// An expression and its first token, which may be a round bracket.
 #[cycle(expressions)]
-#[derive(Drop)]
 pub struct Expr {
     pub at: u32,
     pub form: ExprForm,
+}
+
+impl Drop for Expr {
+    #[cycle(expressions)]
+    fn drop(self) {
+        let Expr { at: _, form: _ } = self;
+    }
 }
 
 /// What an expression is.
@@ -42,11 +48,21 @@ pub enum ExprForm {
 
 /// An operator, its token, and what stands on its right.
 #[cycle(expressions)]
-#[derive(Drop)]
 pub struct Next {
     pub op: Operator,
     pub op_at: u32,
     pub right: Expr,
+}
+
+impl Drop for Next {
+    #[cycle(expressions)]
+    fn drop(self) {
+        let Next {
+            op: _,
+            op_at: _,
+            right: _,
+        } = self;
+    }
 }
 
 /// A name with its selectors.
@@ -69,8 +85,14 @@ pub enum Selector {
 
 /// One value or a range, as a label of a case or an element of a set.
 #[cycle(expressions)]
-#[derive(Drop)]
 pub struct Label {
     pub low: Expr,
     pub high: Option<Expr>,
+}
+
+impl Drop for Label {
+    #[cycle(expressions)]
+    fn drop(self) {
+        let Label { low: _, high: _ } = self;
+    }
 }

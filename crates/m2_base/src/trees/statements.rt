@@ -4,10 +4,16 @@ use crate::trees::expressions::{Designator, Expr, Label};
 
 /// A statement and its first token, of an empty one the token after it.
 #[cycle(statements)]
-#[derive(Drop)]
 pub struct Statement {
     pub at: u32,
     pub form: StmtForm,
+}
+
+impl Drop for Statement {
+    #[cycle(statements)]
+    fn drop(self) {
+        let Statement { at: _, form: _ } = self;
+    }
 }
 
 /// What a statement is.
@@ -59,16 +65,28 @@ pub enum StmtForm {
 
 /// The test after IF or ELSIF, and what is done where it holds.
 #[cycle(statements)]
-#[derive(Drop)]
 pub struct IfArm {
     pub test: Expr,
     pub body: Vec<Statement>,
 }
 
+impl Drop for IfArm {
+    #[cycle(statements)]
+    fn drop(self) {
+        let IfArm { test: _, body: _ } = self;
+    }
+}
+
 /// The labels of one arm of a CASE, and what is done there.
 #[cycle(statements)]
-#[derive(Drop)]
 pub struct CaseArm {
     pub labels: Vec<Label>,
     pub body: Vec<Statement>,
+}
+
+impl Drop for CaseArm {
+    #[cycle(statements)]
+    fn drop(self) {
+        let CaseArm { labels: _, body: _ } = self;
+    }
 }

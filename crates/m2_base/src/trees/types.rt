@@ -4,10 +4,16 @@ use crate::trees::{Ident, Qual};
 
 /// A type and its first token.
 #[cycle(types)]
-#[derive(Drop)]
 pub struct TypeExpr {
     pub at: u32,
     pub form: TypeForm,
+}
+
+impl Drop for TypeExpr {
+    #[cycle(types)]
+    fn drop(self) {
+        let TypeExpr { at: _, form: _ } = self;
+    }
 }
 
 /// What a type is.
@@ -60,8 +66,17 @@ pub enum FieldList {
 
 /// The labels of a variant, and its fields.
 #[cycle(types)]
-#[derive(Drop)]
 pub struct VariantArm {
     pub labels: Vec<Label>,
     pub fields: Vec<FieldList>,
+}
+
+impl Drop for VariantArm {
+    #[cycle(types)]
+    fn drop(self) {
+        let VariantArm {
+            labels: _,
+            fields: _,
+        } = self;
+    }
 }
