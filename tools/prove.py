@@ -5,9 +5,9 @@ usage: prove.py [NAME]
 
 Each crate is proved in a room of its own (rooms.py) over the libraries below it, by `rt lib`, and a program by `rt
 run` without words. The libraries hold statements alone (rt_once.py) and go into the crates' out/statements; a program
-goes into its out/, as if rt had run there. A second start goes on with the crates that weren't done. Crates with nearly
-the longest chain of others above them get all processors that they can use; beside them others are proved while there
-are processors and memory, about 3 GB a check. A crate that took a while has a line when it ends. The
+goes into its out/, as if rt had run there. A second start goes on with the crates that weren't done. The crate with the longest
+chain of others above it gets three jobs, and goes before the others; beside it others are proved, with one each, while
+there are processors and memory, about 3 GB a check. A crate that took a while has a line when it ends. The
 first that fails ends the run with a line that names its log, out/prove/NAME.log, and status 70. Ctrl-C ends all checks.
 """
 import ctypes
@@ -24,12 +24,10 @@ GB = 1 << 30
 # What a check takes of memory, and each job of it beyond the first.
 CHECK, JOB = 3 * GB, 3 * GB // 2
 MOST_JOBS = 4
-# An urgent crate takes a job from others for so many lines of code.
-LINES_OF_JOB = 500
+# The jobs of the crate with the longest chain: each one more is busy but half of the time, and costs a tenth more.
+URGENT_JOBS = 3
 # What lies below a crate is read as long as so many lines for each are proved.
 LINES_OF_CRATE_BELOW = 30
-# A crate is urgent where the chain of crates from it on has at least this share of the longest chain that is left.
-URGENT = 0.7
 # By how much the other checks yield.
 NICE = 10
 # A crate that was built before ends within so many seconds, without a line.
@@ -137,13 +135,11 @@ class Run:
         self.began, self.processors, self.memory = time.monotonic(), processors(), memory()
         # crates that were killed beside others, and are to run alone
         self.alone = set()
-        lines = {it: rooms.lines_of(it) for it in names}
-        self.most_jobs = {it: max(1, min(lines[it] // LINES_OF_JOB, MOST_JOBS, self.processors)) for it in names}
         # the work on a crate, with that on the longest chain of crates above it
         self.chain = {}
         for name in reversed(names):
             above = max((self.chain[it] for it in names if name in rooms.uses(it)), default=0)
-            self.chain[name] = lines[name] + LINES_OF_CRATE_BELOW * len(rooms.below(name)) + above
+            self.chain[name] = rooms.lines_of(name) + LINES_OF_CRATE_BELOW * len(rooms.below(name)) + above
 
     def ready(self):
         """The crates that can begin, with the longest chain first."""
@@ -151,21 +147,19 @@ class Run:
         return sorted(found, key=lambda it: -self.chain[it])
 
     def start(self):
-        """Starts what memory has room for: urgent crates, and others while there are idle processors, which all share."""
-        longest = max((self.chain[it] for it in self.names if it not in self.proved), default=0)
+        """Starts what there are idle processors and memory for, the longest chain first; all share idle processors."""
         ready = self.ready()
         for waiting, name in zip(range(len(ready), 0, -1), ready):
             # (a check counts as one processor: its jobs beyond the first are busy but half of the time)
             idle = self.processors - len(self.checks)
             room = self.memory - sum(it.needs() for it in self.checks)
-            if self.checks and (room < CHECK or self.alone & {name, *(it.name for it in self.checks)}):
+            if idle <= 0 or self.checks and (room < CHECK or self.alone & {name, *(it.name for it in self.checks)}):
                 return
-            is_urgent = self.chain[name] >= URGENT * longest
-            if is_urgent or idle > 0:
-                jobs = max(self.most_jobs[name] if is_urgent else 1, min(MOST_JOBS, idle // waiting))
-                jobs = 1 if name in self.alone else jobs
-                self.left.remove(name)
-                self.checks.append(Check(self.shelf, name, max(1, min(jobs, 1 + (room - CHECK) // JOB)), is_urgent))
+            is_urgent = all(self.chain[name] >= self.chain[it.name] for it in self.checks)
+            jobs = max(URGENT_JOBS if is_urgent else 1, min(MOST_JOBS, idle // waiting))
+            jobs = 1 if name in self.alone else min(jobs, self.processors, 1 + max(0, room - CHECK) // JOB)
+            self.left.remove(name)
+            self.checks.append(Check(self.shelf, name, jobs, is_urgent))
 
     def finish(self, check):
         """Takes what a check that ended has made. One that was killed beside others begins once more, alone."""
