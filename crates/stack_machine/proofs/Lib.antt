@@ -17,3 +17,4 @@ pub mod Placing
 pub mod Starting
 pub mod Growing
 pub mod Pushing
+pub mod Cells

@@ -1,6 +1,6 @@
 //! Cells and addresses.
 ghost use Rattle.std.specs.Prelude.{◌≡◌, ◌<◌, ◌≤◌, ◌-◌, ◌^◌, ◌+◌, ◌*◌, ◌+ℤ◌, ◌-ℤ◌, pos, length, slice_set, Some};
-ghost use Rattle.std.specs.Prelude.{IfSome, IfNone, ◌≤ℤ◌, ◌<ℤ◌};
+ghost use Rattle.std.specs.Prelude.{IfSome, IfNone};
 ghost use Rattle.std.specs.List.{copy_within};
 ghost use Rattle.stack_machine.specs.Able.{HasRoom, CanDo, Comes};
 ghost use Rattle.stack_machine.specs.Numbers.{below, count_of};
@@ -202,7 +202,6 @@ fn element(i: i64, high: i64) -> Option<u64>
 /// The address of the element with a number in an open array.
 fn open_index_at(core: &mut Core, address: i64, size: u32, k: Option<u64>) -> Next
     requires able { CanDo core.old 3 }
-    requires small { IfSome k (λ k. k < 2 ^ 63) }
     ensures comes { Comes result (indexed (state_of core.old) 3 address size k) (state_of core.old)
         (state_of core.new) }
     ensures room { HasRoom core.new }
@@ -210,22 +209,12 @@ fn open_index_at(core: &mut Core, address: i64, size: u32, k: Option<u64>) -> Ne
     let Some(k) = k else {
         return Next::Traps(Trap::Index);
     };
-    let a = wide_reach(address, k as i128 * size as i128, core.cells.len());
+    // No cell is 2^64 or more behind an address.
+    let Some(far) = k.checked_mul(size as u64) else {
+        return Next::Traps(Trap::Address);
+    };
+    let a = reach(address, far, core.cells.len());
     give_address(core, 3, a)
-}
-
-/// The address so far behind another, which may be very far.
-fn wide_reach(address: i64, far: i128, cells: usize) -> Option<usize>
-    requires low { pos 0 ≤ℤ far }
-    requires high { far <ℤ pos (2 ^ 96) }
-    ensures { result ≡ below cells (address +ℤ far) }
-{
-    let a = address as i128 + far;
-    if 0 <= a && a < cells as i128 {
-        Some(a as usize)
-    } else {
-        None
-    }
 }
 
 #[tactic(auto, unfolding(crate::specs::Step::does))]
@@ -282,17 +271,21 @@ pub(crate) fn allocate(core: &mut Core, n: u32) -> Next
     take(core, 1)
 }
 
+/// How many elements an open array with this HIGH has.
+pub(crate) fn count(high: i64) -> u64
+    ensures { result ≡ count_of high }
+{
+    if high < 0 { 0 } else { high as u64 + 1 }
+}
+
 /// How many cells the elements of an open array are, where that is below a bound.
 fn open_size(high: i64, size: u32, bound: usize) -> Option<usize>
     requires { bound < 2 ^ 63 }
     ensures some { IfSome result (λ n. (n ≡ count_of high * size) × (n ≤ bound)) }
     ensures none { IfNone result (bound < count_of high * size) }
 {
-    if high < 0 {
-        return Some(0);
-    }
-    let n = (high as i128 + 1) * size as i128;
-    if n <= bound as i128 {
+    let n = count(high) as u128 * size as u128;
+    if n <= bound as u128 {
         Some(n as usize)
     } else {
         None

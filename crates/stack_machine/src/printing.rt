@@ -6,11 +6,12 @@ ghost use Rattle.m2_io.specs.Written.{with_bytes, WritesPart};
 ghost use Rattle.stack_machine.specs.Able.{HasRoom};
 ghost use Rattle.stack_machine.specs.InOut.{char_at as character, IsThere, number_digits, text_at, text_from, padded};
 ghost use Rattle.stack_machine.specs.InOut.{number_text, string_of, printed, params_of, is_width, can_go_on, Reads};
-ghost use Rattle.stack_machine.specs.Numbers.{low_bits, count_of};
+ghost use Rattle.stack_machine.specs.Numbers.{low_bits};
 ghost use Rattle.stack_machine.specs.Operands.{top_of};
 ghost use Rattle.stack_machine.specs.State.{state_of};
 
 use crate::core_state::Core;
+use crate::memory::count;
 use crate::op::Service;
 use crate::stack::operand;
 use m2_io::{Sink, SinkError, write_all};
@@ -79,13 +80,6 @@ fn write_text<P: Sink>(print: &mut P, cells: &[i64], n: u64, at: usize) -> Resul
         }
     }
     Ok(true)
-}
-
-/// How many elements an open array with this HIGH has.
-fn count(high: i64) -> u64
-    ensures { result ≡ count_of high }
-{
-    if high < 0 { 0 } else { high as u64 + 1 }
 }
 
 /// The text of n cells from an address on.

@@ -1,15 +1,21 @@
 use Rattle.std.proofs.Common.{◌≡◌, refl, sym, ap, subst}
+use Rattle.stack_machine.specs.declared.core_state.Core.{Core}
 use Rattle.stack_machine.specs.declared.op.Op.{Op}
 use Rattle.stack_machine.specs.State.{State, Program, state_of, program_of}
 use Rattle.stack_machine.specs.declared.next.Next.{Next}
 use Rattle.stack_machine.specs.InOut.{Got}
-use Rattle.stack_machine.specs.Step.{does}
-use Rattle.stack_machine.specs.Able.{Comes}
+use Rattle.stack_machine.specs.Step.{does, takes}
+use Rattle.stack_machine.specs.Able.{Comes, CanDo}
+use Rattle.stack_machine.specs.Ready.{Able}
 use Rattle.stack_machine.proofs.act.act.Goals as goal
 
 -- what the operation at hand does
 by_op : (program : Program) (got : Got) (result : Next) (old new : State) {op this : Op} → op ≡ this → Comes result (does program got this old) old new → Comes result (does program got op old) old new
 by_op program got result old new is comes = subst (λ (o : Op). Comes result (does program got o old) old new) (sym is) comes
+
+-- its operands are there
+able_for : {p : Program} (core : Core) {op this : Op} → op ≡ this → Able p core op → CanDo core (takes this)
+able_for core is able = subst (λ (o : Op). CanDo core (takes o)) is able.can
 
 pub returns-in-Call-clause-comes : goal.returns-in-Call-clause-comes
 returns-in-Call-clause-comes c = λ got.
@@ -174,3 +180,249 @@ returns-in-Halt-clause-comes c = λ got. (ap (λ (op : Op). does (program_of c.a
 pub returns-in-Trap-clause-comes : goal.returns-in-Trap-clause-comes
 unfolding does
 returns-in-Trap-clause-comes c = λ got. (ap (λ (op : Op). does (program_of c.args.code.now) got op (state_of c.args.core.now)) c.in-Trap.is, refl)
+
+pub push-requires : goal.push-requires
+push-requires c = record { able = able_for c.args.core.now c.in-Push.is c.requires.able }
+
+pub returns-in-Push-clause-room : goal.returns-in-Push-clause-room
+returns-in-Push-clause-room c = c.push.ensures.room
+
+pub returns-in-Local-clause-room : goal.returns-in-Local-clause-room
+returns-in-Local-clause-room c = c.local.ensures.room
+
+pub load-requires : goal.load-requires
+load-requires c = record { able = able_for c.args.core.now c.in-Load.is c.requires.able }
+
+pub returns-in-Load-clause-room : goal.returns-in-Load-clause-room
+returns-in-Load-clause-room c = c.load.ensures.room
+
+pub store-requires : goal.store-requires
+store-requires c = record { able = able_for c.args.core.now c.in-Store.is c.requires.able }
+
+pub returns-in-Store-clause-room : goal.returns-in-Store-clause-room
+returns-in-Store-clause-room c = c.store.ensures.room
+
+pub copy_cells-requires : goal.copy_cells-requires
+copy_cells-requires c = record { able = able_for c.args.core.now c.in-Move.is c.requires.able }
+
+pub returns-in-Move-clause-room : goal.returns-in-Move-clause-room
+returns-in-Move-clause-room c = c.copy_cells.ensures.room
+
+pub duplicate-requires : goal.duplicate-requires
+duplicate-requires c = record { able = able_for c.args.core.now c.in-Dup.is c.requires.able }
+
+pub returns-in-Dup-clause-room : goal.returns-in-Dup-clause-room
+returns-in-Dup-clause-room c = c.duplicate.ensures.room
+
+pub offset-requires : goal.offset-requires
+offset-requires c = record { able = able_for c.args.core.now c.in-Offset.is c.requires.able }
+
+pub returns-in-Offset-clause-room : goal.returns-in-Offset-clause-room
+returns-in-Offset-clause-room c = c.offset.ensures.room
+
+pub index-requires : goal.index-requires
+index-requires c = record { able = able_for c.args.core.now c.in-Index.is c.requires.able }
+
+pub returns-in-Index-clause-room : goal.returns-in-Index-clause-room
+returns-in-Index-clause-room c = c.index.ensures.room
+
+pub open_index-requires : goal.open_index-requires
+open_index-requires c = record { able = able_for c.args.core.now c.in-IndexOpen.is c.requires.able }
+
+pub returns-in-IndexOpen-clause-room : goal.returns-in-IndexOpen-clause-room
+returns-in-IndexOpen-clause-room c = c.open_index.ensures.room
+
+pub check-requires : goal.check-requires
+check-requires c = record { able = able_for c.args.core.now c.in-Check.is c.requires.able }
+
+pub returns-in-Check-clause-room : goal.returns-in-Check-clause-room
+returns-in-Check-clause-room c = c.check.ensures.room
+
+pub not_nil-requires : goal.not_nil-requires
+not_nil-requires c = record { able = able_for c.args.core.now c.in-Nil.is c.requires.able }
+
+pub returns-in-Nil-clause-room : goal.returns-in-Nil-clause-room
+returns-in-Nil-clause-room c = c.not_nil.ensures.room
+
+pub add-requires : goal.add-requires
+add-requires c = record { able = able_for c.args.core.now c.in-Add.is c.requires.able }
+
+pub returns-in-Add-clause-room : goal.returns-in-Add-clause-room
+returns-in-Add-clause-room c = c.add.ensures.room
+
+pub subtract-requires : goal.subtract-requires
+subtract-requires c = record { able = able_for c.args.core.now c.in-Sub.is c.requires.able }
+
+pub returns-in-Sub-clause-room : goal.returns-in-Sub-clause-room
+returns-in-Sub-clause-room c = c.subtract.ensures.room
+
+pub multiply-requires : goal.multiply-requires
+multiply-requires c = record { able = able_for c.args.core.now c.in-Mul.is c.requires.able }
+
+pub returns-in-Mul-clause-room : goal.returns-in-Mul-clause-room
+returns-in-Mul-clause-room c = c.multiply.ensures.room
+
+pub divide-requires : goal.divide-requires
+divide-requires c = record { able = able_for c.args.core.now c.in-Div.is c.requires.able }
+
+pub returns-in-Div-clause-room : goal.returns-in-Div-clause-room
+returns-in-Div-clause-room c = c.divide.ensures.room
+
+pub remainder-requires : goal.remainder-requires
+remainder-requires c = record { able = able_for c.args.core.now c.in-Mod.is c.requires.able }
+
+pub returns-in-Mod-clause-room : goal.returns-in-Mod-clause-room
+returns-in-Mod-clause-room c = c.remainder.ensures.room
+
+pub negate-requires : goal.negate-requires
+negate-requires c = record { able = able_for c.args.core.now c.in-Neg.is c.requires.able }
+
+pub returns-in-Neg-clause-room : goal.returns-in-Neg-clause-room
+returns-in-Neg-clause-room c = c.negate.ensures.room
+
+pub absolute-requires : goal.absolute-requires
+absolute-requires c = record { able = able_for c.args.core.now c.in-Abs.is c.requires.able }
+
+pub returns-in-Abs-clause-room : goal.returns-in-Abs-clause-room
+returns-in-Abs-clause-room c = c.absolute.ensures.room
+
+pub negation-requires : goal.negation-requires
+negation-requires c = record { able = able_for c.args.core.now c.in-Not.is c.requires.able }
+
+pub returns-in-Not-clause-room : goal.returns-in-Not-clause-room
+returns-in-Not-clause-room c = c.negation.ensures.room
+
+pub equal-requires : goal.equal-requires
+equal-requires c = record { able = able_for c.args.core.now c.in-Eq.is c.requires.able }
+
+pub returns-in-Eq-clause-room : goal.returns-in-Eq-clause-room
+returns-in-Eq-clause-room c = c.equal.ensures.room
+
+pub differ-requires : goal.differ-requires
+differ-requires c = record { able = able_for c.args.core.now c.in-Ne.is c.requires.able }
+
+pub returns-in-Ne-clause-room : goal.returns-in-Ne-clause-room
+returns-in-Ne-clause-room c = c.differ.ensures.room
+
+pub less-requires : goal.less-requires
+less-requires c = record { able = able_for c.args.core.now c.in-Lt.is c.requires.able }
+
+pub returns-in-Lt-clause-room : goal.returns-in-Lt-clause-room
+returns-in-Lt-clause-room c = c.less.ensures.room
+
+pub at_most-requires : goal.at_most-requires
+at_most-requires c = record { able = able_for c.args.core.now c.in-Le.is c.requires.able }
+
+pub returns-in-Le-clause-room : goal.returns-in-Le-clause-room
+returns-in-Le-clause-room c = c.at_most.ensures.room
+
+pub greater-requires : goal.greater-requires
+greater-requires c = record { able = able_for c.args.core.now c.in-Gt.is c.requires.able }
+
+pub returns-in-Gt-clause-room : goal.returns-in-Gt-clause-room
+returns-in-Gt-clause-room c = c.greater.ensures.room
+
+pub at_least-requires : goal.at_least-requires
+at_least-requires c = record { able = able_for c.args.core.now c.in-Ge.is c.requires.able }
+
+pub returns-in-Ge-clause-room : goal.returns-in-Ge-clause-room
+returns-in-Ge-clause-room c = c.at_least.ensures.room
+
+pub unite-requires : goal.unite-requires
+unite-requires c = record { able = able_for c.args.core.now c.in-Union.is c.requires.able }
+
+pub returns-in-Union-clause-room : goal.returns-in-Union-clause-room
+returns-in-Union-clause-room c = c.unite.ensures.room
+
+pub subtract_set-requires : goal.subtract_set-requires
+subtract_set-requires c = record { able = able_for c.args.core.now c.in-Diff.is c.requires.able }
+
+pub returns-in-Diff-clause-room : goal.returns-in-Diff-clause-room
+returns-in-Diff-clause-room c = c.subtract_set.ensures.room
+
+pub intersect-requires : goal.intersect-requires
+intersect-requires c = record { able = able_for c.args.core.now c.in-Inter.is c.requires.able }
+
+pub returns-in-Inter-clause-room : goal.returns-in-Inter-clause-room
+returns-in-Inter-clause-room c = c.intersect.ensures.room
+
+pub exclusive-requires : goal.exclusive-requires
+exclusive-requires c = record { able = able_for c.args.core.now c.in-SymDiff.is c.requires.able }
+
+pub returns-in-SymDiff-clause-room : goal.returns-in-SymDiff-clause-room
+returns-in-SymDiff-clause-room c = c.exclusive.ensures.room
+
+pub subset-requires : goal.subset-requires
+subset-requires c = record { able = able_for c.args.core.now c.in-Subset.is c.requires.able }
+
+pub returns-in-Subset-clause-room : goal.returns-in-Subset-clause-room
+returns-in-Subset-clause-room c = c.subset.ensures.room
+
+pub superset-requires : goal.superset-requires
+superset-requires c = record { able = able_for c.args.core.now c.in-Superset.is c.requires.able }
+
+pub returns-in-Superset-clause-room : goal.returns-in-Superset-clause-room
+returns-in-Superset-clause-room c = c.superset.ensures.room
+
+pub contains-requires : goal.contains-requires
+contains-requires c = record { able = able_for c.args.core.now c.in-In.is c.requires.able }
+
+pub returns-in-In-clause-room : goal.returns-in-In-clause-room
+returns-in-In-clause-room c = c.contains.ensures.room
+
+pub single-requires : goal.single-requires
+single-requires c = record { able = able_for c.args.core.now c.in-Bit.is c.requires.able }
+
+pub returns-in-Bit-clause-room : goal.returns-in-Bit-clause-room
+returns-in-Bit-clause-room c = c.single.ensures.room
+
+pub range-requires : goal.range-requires
+range-requires c = record { able = able_for c.args.core.now c.in-Span.is c.requires.able }
+
+pub returns-in-Span-clause-room : goal.returns-in-Span-clause-room
+returns-in-Span-clause-room c = c.range.ensures.room
+
+pub more-requires : goal.more-requires
+more-requires c = record { able = able_for c.args.core.now c.in-More.is c.requires.able }
+
+pub returns-in-More-clause-room : goal.returns-in-More-clause-room
+returns-in-More-clause-room c = c.more.ensures.room
+
+pub capitalize-requires : goal.capitalize-requires
+capitalize-requires c = record { able = able_for c.args.core.now c.in-Cap.is c.requires.able }
+
+pub returns-in-Cap-clause-room : goal.returns-in-Cap-clause-room
+returns-in-Cap-clause-room c = c.capitalize.ensures.room
+
+pub jump-requires : goal.jump-requires
+jump-requires c = record { able = able_for c.args.core.now c.in-Jump.is c.requires.able }
+
+pub returns-in-Jump-clause-room : goal.returns-in-Jump-clause-room
+returns-in-Jump-clause-room c = c.jump.ensures.room
+
+pub jump_false-requires : goal.jump_false-requires
+jump_false-requires c = record { able = able_for c.args.core.now c.in-JumpFalse.is c.requires.able }
+
+pub returns-in-JumpFalse-clause-room : goal.returns-in-JumpFalse-clause-room
+returns-in-JumpFalse-clause-room c = c.jump_false.ensures.room
+
+pub and_jump-requires : goal.and_jump-requires
+and_jump-requires c = record { able = able_for c.args.core.now c.in-AndJump.is c.requires.able }
+
+pub returns-in-AndJump-clause-room : goal.returns-in-AndJump-clause-room
+returns-in-AndJump-clause-room c = c.and_jump.ensures.room
+
+pub or_jump-requires : goal.or_jump-requires
+or_jump-requires c = record { able = able_for c.args.core.now c.in-OrJump.is c.requires.able }
+
+pub returns-in-OrJump-clause-room : goal.returns-in-OrJump-clause-room
+returns-in-OrJump-clause-room c = c.or_jump.ensures.room
+
+pub allocate-requires : goal.allocate-requires
+allocate-requires c = record { able = able_for c.args.core.now c.in-New.is c.requires.able }
+
+pub returns-in-New-clause-room : goal.returns-in-New-clause-room
+returns-in-New-clause-room c = c.allocate.ensures.room
+
+pub returns-in-OpenCopy-clause-room : goal.returns-in-OpenCopy-clause-room
+returns-in-OpenCopy-clause-room c = c.open_copy.ensures.room
