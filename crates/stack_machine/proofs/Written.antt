@@ -3,10 +3,14 @@ use Rattle.std.proofs.Common.{◌≡◌, ℕ, zero, suc, ◌+◌, ◌-◌, ◌/�
 use Rattle.std.specs.Prelude.{decimal, replicate, Result, Ok, Err, OnErr}
 use Rattle.std.proofs.lemmas.List.{append-nil, length-append}
 use Rattle.std.proofs.lemmas.Fmt.{decimal_digit, decimal_step}
-use Rattle.std.specs.Prelude.{ℤ, Bool, true, false}
+use Rattle.std.specs.Prelude.{ℤ, pos, negsuc, unsigned_abs, Bool, true, false}
+use Rattle.std.specs.Int.Signed.{le_z}
+use Rattle.std.proofs.Common.{FitsSigned, w64, to_z, of_z}
+use Rattle.std.proofs.lemmas.Bool.{false≢true, le-ltb, leb-false, leb-true, lt-ltb}
+use Rattle.std.proofs.lemmas.Int.{to_z-of_z}
 use Rattle.stack_machine.specs.declared.printing.Char.{Char}
 use Rattle.stack_machine.specs.declared.printing.Char.TheVariants as chars
-use Rattle.stack_machine.specs.InOut.{Text, text_at, char_at, begun}
+use Rattle.stack_machine.specs.InOut.{Text, text_at, char_at, begun, number_digits, padded}
 use Rattle.m2_io.specs.Written.{with_bytes, WritesPart}
 use Rattle.m2_io.specs.Causes.{Rose}
 
@@ -67,6 +71,48 @@ more_digits n le lt = sym (ap length (decimal_step n le lt) ∙ length-append (d
 
 pub sign_back : (old new : Option (List ℕ)) (b : List ℕ) → WritesPart old (45 ∷ []) new → WritesPart old (45 ∷ b) new
 sign_back old new b h = part_front old new (45 ∷ []) b h
+
+-- ---- numbers with a sign, and with blanks before them
+
+positive_is : (v : ℤ) (n : ℕ) → le_z (pos 0) v ≡ true → n ≡ unsigned_abs v → decimal n ≡ number_digits v
+unfolding number_digits
+positive_is (pos k) n test is = rw (le-ltb k 0 (omega arith)) (ap decimal is)
+positive_is (negsuc k) n test is = absurd (false≢true test)
+
+negative_is : (v : ℤ) (n : ℕ) → le_z (pos 0) v ≡ false → n ≡ unsigned_abs v → 45 ∷ decimal n ≡ number_digits v
+unfolding number_digits
+negative_is (pos k) n test is = absurd (omega (arith, leb-false 0 k test))
+negative_is (negsuc k) n test is = ap (λ (m : ℕ). 45 ∷ decimal m) is
+
+-- the number is handed on before it is tested
+pub positive_digits : (v : ℤ) (n : ℕ) → FitsSigned w64 v → le_z (pos 0) (to_z w64 (of_z w64 v)) ≡ true → n ≡ unsigned_abs (to_z w64 (of_z w64 v)) → decimal n ≡ number_digits v
+positive_digits v n fits test is = let same = to_z-of_z w64 v fits in positive_is v n (subst (λ (z : ℤ). le_z (pos 0) z ≡ true) same test) (is ∙ ap unsigned_abs same)
+
+pub negative_digits : (v : ℤ) (n : ℕ) → FitsSigned w64 v → le_z (pos 0) (to_z w64 (of_z w64 v)) ≡ false → n ≡ unsigned_abs (to_z w64 (of_z w64 v)) → 45 ∷ decimal n ≡ number_digits v
+negative_digits v n fits test is = let same = to_z-of_z w64 v fits in negative_is v n (subst (λ (z : ℤ). le_z (pos 0) z ≡ false) same test) (is ∙ ap unsigned_abs same)
+
+narrow_is : (n : ℤ) (text : List ℕ) → le_z n (pos 0) ≡ true → text ≡ padded n text
+unfolding padded
+narrow_is (pos k) text test = rw (le-ltb 0 k (leb-true k 0 test)) refl
+narrow_is (negsuc k) text test = refl
+
+wide_is : (n : ℤ) (text : List ℕ) → le_z n (pos 0) ≡ false → replicate (unsigned_abs n - length text) 32 ++ text ≡ padded n text
+unfolding padded
+wide_is (pos k) text test = rw (lt-ltb 0 k (leb-false k 0 test)) refl
+wide_is (negsuc k) text test = absurd (false≢true (sym test))
+
+pub narrow : (n v : ℤ) → FitsSigned w64 n → FitsSigned w64 v → le_z (to_z w64 (of_z w64 n)) (pos 0) ≡ true → number_digits (to_z w64 (of_z w64 v)) ≡ padded n (number_digits v)
+narrow n v fits fits' test = ap number_digits (to_z-of_z w64 v fits') ∙ narrow_is n (number_digits v) (subst (λ (z : ℤ). le_z z (pos 0) ≡ true) (to_z-of_z w64 n fits) test)
+
+-- the blanks and the digits, as they are handed on
+pub wide : (n v : ℤ) (blanks size wide : ℕ) → FitsSigned w64 n → FitsSigned w64 v → le_z (to_z w64 (of_z w64 n)) (pos 0) ≡ false → blanks ≡ wide - size → wide ≡ unsigned_abs (to_z w64 (of_z w64 n)) → size ≡ length (number_digits (to_z w64 (of_z w64 v)))
+    → replicate blanks 32 ++ number_digits (to_z w64 (of_z w64 v)) ≡ padded n (number_digits v)
+wide n v blanks size all fits fits' test is all_is size_is =
+    let same = to_z-of_z w64 n fits in
+    let digits = ap number_digits (to_z-of_z w64 v fits') in
+    let count : blanks ≡ unsigned_abs n - length (number_digits v) = is ∙ ap (λ (k : ℕ). k - size) (all_is ∙ ap unsigned_abs same) ∙ ap (λ (k : ℕ). unsigned_abs n - k) (size_is ∙ ap length digits) in
+    ap (λ (k : ℕ). replicate k 32 ++ number_digits (to_z w64 (of_z w64 v))) count ∙ ap (λ (t : List ℕ). replicate (unsigned_abs n - length (number_digits v)) 32 ++ t) digits
+    ∙ wide_is n (number_digits v) (subst (λ (z : ℤ). le_z z (pos 0) ≡ false) same test)
 
 -- ---- blanks
 
