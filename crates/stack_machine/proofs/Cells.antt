@@ -1,6 +1,6 @@
 -- Cells, addresses, and the room that a state has: over plain data.
 use Rattle.std.proofs.Common.{◌≡◌, ℕ, ◌+◌, ◌-◌, ◌*◌, ◌^◌, ◌<◌, ◌≤◌, ◌&&◌, ◌==◌, Bool, true, false, List, length, drop, ltb, leb, Some, None, Option, refl, sym, ap, ◌∙◌, subst, arith, ℤ, pos, negsuc, ◌+ℤ◌, ◌≤ℤ◌, ◌<ℤ◌, FitsSigned, w64, to_z, of_z}
-use Rattle.std.specs.Prelude.{slice_set, vec_capacity, IfSome}
+use Rattle.std.specs.Prelude.{slice_set, vec_capacity, IfSome, if◌then◌else◌}
 use Rattle.std.specs.List.{copy_within}
 use Rattle.std.specs.Vec.{with_item, with_items}
 use Rattle.std.specs.declared.alloc.Global.{Global}
@@ -110,6 +110,19 @@ cell_within cells (negsuc k) a is = absurd cc
 below_over : (n : ℕ) (z : ℤ) → pos n ≤ℤ z → below n z ≡ None
 below_over n (pos k) h = rw (le-ltb k n (omega (arith, ints))) refl
 below_over n (negsuc k) h = refl
+
+pub below_small : (n : ℕ) (z : ℤ) (r : Option ℕ) {m : ℕ} → r ≡ below n z → n ≡ m → m < 2 ^ 32 → IfSome r (λ k. k < 2 ^ 63)
+below_small n z r is same few = subst (λ (o : Option ℕ). IfSome o (λ k. k < 2 ^ 63)) (sym is) (by_sign z) where
+  chosen : (k : ℕ) (b : Bool) → ltb k n ≡ b → IfSome (if b then Some k else None) (λ k. k < 2 ^ 63)
+  chosen k true lt = let below = ltb-true k n lt in omega (arith, below, same, few)
+  chosen k false lt = tt
+
+  by_sign : (z : ℤ) → IfSome (below n z) (λ k. k < 2 ^ 63)
+  by_sign (pos k) = chosen k (ltb k n) refl
+  by_sign (negsuc k) = tt
+
+pub not_below : {m n : ℕ} → (m < n → ⊥) → n ≤ m
+not_below none = omega (arith, none)
 
 -- so far behind any address no cell is
 pub far_is_none : (cells far : ℕ) (address : ℤ) → cells < 2 ^ 32 → 2 ^ 64 ≤ far → FitsSigned w64 address → below cells (address +ℤ pos far) ≡ None
