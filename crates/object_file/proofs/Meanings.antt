@@ -12,7 +12,7 @@ use Rattle.object_file.proofs.Matching.{eq-eqb}
 
 -- ---- reading by parts
 
-then_then : {A B C : Type 0} (r : Result A Bad) (f : A → Result B Bad) (g : B → Result C Bad) → (r then f) then g ≡ r then (λ x. f x then g)
+pub then_then : {A B C : Type 0} (r : Result A Bad) (f : A → Result B Bad) (g : B → Result C Bad) → (r then f) then g ≡ r then (λ x. f x then g)
 then_then (Ok x) f g = refl
 then_then (Err e) f g = refl
 

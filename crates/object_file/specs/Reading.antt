@@ -35,6 +35,19 @@ import_at version before bytes = do
     headings.1,
   )
 
+-- the first fields of procedure k: its outer procedure, and the cells of its parameters, of its result and in all
+unfoldable pub frame_at : List Export → (k : ℕ) → List ℕ → Result ((ℕ × ℕ × ℕ × ℕ) × List ℕ) Bad
+frame_at exports k bytes = do
+  outer ← number_at bytes
+  _ ← valid_at (is_outer exports k outer.0) bytes
+  params ← number_at outer.1
+  _ ← valid_at (is_params exports k params.0) outer.1
+  result ← number_at params.1
+  _ ← valid_at (is_result exports k result.0) params.1
+  locals ← number_at result.1
+  _ ← valid_at (is_locals params.0 locals.0) result.1
+  Ok ((outer.0, params.0, result.0, locals.0), locals.1)
+
 unfoldable pub procedure_at : List Export → List Procedure → List ℕ → Result (Procedure × List ℕ) Bad
 procedure_at exports before bytes = do
   outer ← number_at bytes

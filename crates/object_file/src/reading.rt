@@ -3,8 +3,8 @@ ghost use Rattle.std.specs.Prelude.{◌≡◌, ◌<◌, ◌^◌, [], map, length
 ghost use Rattle.object_file.specs.Fields.{Gives, many_at, counted_at};
 ghost use Rattle.object_file.specs.ObjectFormat.{any, version_near as spec_near, key_length as spec_key_length};
 ghost use Rattle.object_file.specs.ObjectFormat.{is_count as spec_count};
-ghost use Rattle.object_file.specs.Reading.{export_at, heading_at, import_at, procedure_at, fields_at, object_at};
-ghost use Rattle.object_file.specs.Reading.{whole_at};
+ghost use Rattle.object_file.specs.Reading.{export_at, heading_at, import_at, frame_at, procedure_at};
+ghost use Rattle.object_file.specs.Reading.{fields_at, object_at, whole_at};
 ghost use Rattle.object_file.specs.Views.{heading_of, keyed_of, procedure_of, contents_of};
 
 use crate::conditions::{
@@ -135,19 +135,11 @@ fn imports(alloc: Global, version: u32, bytes: &mut &[u8]) -> Result<Vec<ImportN
     imports_of(alloc, version, count, bytes)
 }
 
-/// A procedure behind these.
-#[tactic(auto, unfolding(crate::specs::Reading::procedure_at))]
-fn procedure(
-    alloc: Global,
-    exports: &Exports,
-    before: &[ProcCode],
-    bytes: &mut &[u8],
-) -> Result<ProcCode, Stop>
-    requires { length before.now < 2 ^ 32 }
-    ensures { Gives (λ x. (procedure_of x, bytes.new.now)) result
-        (procedure_at exports.now (map procedure_of before.now) bytes.old.now) }
+/// The frame of procedure k: its outer procedure, and the cells of its parameters, of its result and in all.
+#[tactic(auto, unfolding(crate::specs::Reading::frame_at))]
+fn frame(exports: &Exports, k: u32, bytes: &mut &[u8]) -> Result<(u32, u32, u32, u32), Stop>
+    ensures { Gives (λ x. (x, bytes.new.now)) result (frame_at exports.now k bytes.old.now) }
 {
-    let k = before.len() as u32;
     let at = *bytes;
     let outer = number(bytes)?;
     valid(is_outer(exports, k, outer), at)?;
@@ -160,13 +152,28 @@ fn procedure(
     let at = *bytes;
     let locals = number(bytes)?;
     valid(is_locals(params, locals), at)?;
+    Ok((outer, params, cells, locals))
+}
+
+/// A procedure behind these.
+fn procedure(
+    alloc: Global,
+    exports: &Exports,
+    before: &[ProcCode],
+    bytes: &mut &[u8],
+) -> Result<ProcCode, Stop>
+    requires { length before.now < 2 ^ 32 }
+    ensures { Gives (λ x. (procedure_of x, bytes.new.now)) result
+        (procedure_at exports.now (map procedure_of before.now) bytes.old.now) }
+{
+    let (outer, params, result, locals) = frame(exports, before.len() as u32, bytes)?;
     let high = number(bytes)?;
     let strings = text(alloc, bytes)?;
     let code = text(alloc, bytes)?;
     Ok(ProcCode {
         outer,
         params,
-        result: cells,
+        result,
         locals,
         high,
         bytes: strings,

@@ -1,84 +1,59 @@
-use Rattle.std.proofs.Common.{◌≡◌, ◌∙◌, ℕ, Bool, List, length, map, refl, sym, ap}
+use Rattle.std.proofs.Common.{◌≡◌, ◌∙◌, ℕ, List, length, map, sym, ap, Result, Ok}
 use Rattle.std.proofs.lemmas.List.{length-map}
 use Rattle.m2_base.specs.declared.outputs.ProcCode.{ProcCode}
+use Rattle.code_form.specs.Modules.{Procedure}
 use Rattle.object_file.specs.Contents.{Export}
-use Rattle.object_file.specs.ObjectFormat.{is_outer, is_params, is_result}
-use Rattle.object_file.specs.Reading.{procedure_at}
+use Rattle.object_file.specs.Fields.{number_at, text_at, valid_at, ◌then◌}
+use Rattle.object_file.specs.Formats.{Bad}
+use Rattle.object_file.specs.ObjectFormat.{is_outer, is_params, is_result, is_locals}
+use Rattle.object_file.specs.Reading.{frame_at, procedure_at}
 use Rattle.object_file.specs.Views.{procedure_of}
-use Rattle.object_file.proofs.FieldSteps.{onwards, valid_onwards, ends_there, valid_ends}
+use Rattle.object_file.proofs.FieldSteps.{onwards, ends_there}
+use Rattle.object_file.proofs.Meanings.{then_same, then_then}
 use Rattle.object_file.proofs.reading.procedure.Goals as goal
 
--- a test of a field behind so many procedures
-many : (test : List Export → ℕ → ℕ → Bool) (exports : List Export) (before : List ProcCode) (n : ℕ) → test exports (length before) n ≡ test exports (length (map procedure_of before)) n
-many test exports before n = ap (λ (k : ℕ). test exports k n) (sym (length-map before procedure_of))
+-- the fields behind the frame
+abbrev behind : (ℕ × ℕ × ℕ × ℕ) × List ℕ → Result (Procedure × List ℕ) Bad
+behind f = number_at f.1 then λ high. (text_at high.1 then λ strings. (text_at strings.1 then λ code.
+    Ok (record { outer = f.0.0; params = f.0.1; result = f.0.2; locals = f.0.3; high = high.0; bytes = strings.0; code = code.0 }, code.1)))
+
+-- a procedure is read as its frame and the fields behind it
+framed : (exports : List Export) (before : List Procedure) (bytes : List ℕ) → procedure_at exports before bytes ≡ (frame_at exports (length before) bytes then behind)
+unfolding procedure_at frame_at
+framed exports before bytes =
+    sym (then_then (number_at bytes) _ behind ∙ then_same (number_at bytes) _ _ (λ outer.
+    then_then (valid_at (is_outer exports (length before) outer.0) bytes) _ behind ∙ then_same (valid_at (is_outer exports (length before) outer.0) bytes) _ _ (λ u.
+    then_then (number_at outer.1) _ behind ∙ then_same (number_at outer.1) _ _ (λ params.
+    then_then (valid_at (is_params exports (length before) params.0) outer.1) _ behind ∙ then_same (valid_at (is_params exports (length before) params.0) outer.1) _ _ (λ v.
+    then_then (number_at params.1) _ behind ∙ then_same (number_at params.1) _ _ (λ result.
+    then_then (valid_at (is_result exports (length before) result.0) params.1) _ behind ∙ then_same (valid_at (is_result exports (length before) result.0) params.1) _ _ (λ w.
+    then_then (number_at result.1) _ behind ∙ then_same (number_at result.1) _ _ (λ locals.
+    then_then (valid_at (is_locals params.0 locals.0) result.1) _ behind))))))))
+
+-- the procedures before it are as many, seen as what they say
+read_is : (exports : List Export) (before : List ProcCode) (bytes : List ℕ) → procedure_at exports (map procedure_of before) bytes ≡ (frame_at exports (length before) bytes then behind)
+read_is exports before bytes = framed exports (map procedure_of before) bytes ∙ ap (λ (k : ℕ). frame_at exports k bytes then behind) (length-map before procedure_of)
 
 pub returns-in_err-outer : goal.returns-in_err-outer
-unfolding procedure_at
 returns-in_err-outer c =
     ends_there _ _ _ _ c.from_residual.result c.from_residual.ensures.1 c.in_err-outer.ensures
-    refl
-
-pub returns-in_err-valid : goal.returns-in_err-valid
-unfolding procedure_at
-returns-in_err-valid c =
-    valid_ends _ _ _ _ c.from_residual-in_err-valid.result (c.is_outer.ensures ∙ many is_outer c.args.exports.now c.args.before.now _) c.from_residual-in_err-valid.ensures.1 c.in_err-valid.ensures
-    (onwards _ _ c.in_ok-outer.ensures refl)
-
-pub returns-in_err-params : goal.returns-in_err-params
-unfolding procedure_at
-returns-in_err-params c =
-    ends_there _ _ _ _ c.from_residual-in_err-params.result c.from_residual-in_err-params.ensures.1 c.in_err-params.ensures
-    (valid_onwards _ _ (c.is_outer.ensures ∙ many is_outer c.args.exports.now c.args.before.now _) c.in_ok-valid.ensures (onwards _ _ c.in_ok-outer.ensures refl))
-
-pub returns-in_err-valid-2 : goal.returns-in_err-valid-2
-unfolding procedure_at
-returns-in_err-valid-2 c =
-    valid_ends _ _ _ _ c.from_residual-in_err-valid-2.result (c.is_params.ensures ∙ many is_params c.args.exports.now c.args.before.now _) c.from_residual-in_err-valid-2.ensures.1 c.in_err-valid-2.ensures
-    (onwards _ _ c.in_ok-params.ensures (valid_onwards _ _ (c.is_outer.ensures ∙ many is_outer c.args.exports.now c.args.before.now _) c.in_ok-valid.ensures (onwards _ _ c.in_ok-outer.ensures refl)))
-
-pub returns-in_err-cells : goal.returns-in_err-cells
-unfolding procedure_at
-returns-in_err-cells c =
-    ends_there _ _ _ _ c.from_residual-in_err-cells.result c.from_residual-in_err-cells.ensures.1 c.in_err-cells.ensures
-    (valid_onwards _ _ (c.is_params.ensures ∙ many is_params c.args.exports.now c.args.before.now _) c.in_ok-valid-2.ensures (onwards _ _ c.in_ok-params.ensures (valid_onwards _ _ (c.is_outer.ensures ∙ many is_outer c.args.exports.now c.args.before.now _) c.in_ok-valid.ensures (onwards _ _ c.in_ok-outer.ensures refl))))
-
-pub returns-in_err-valid-3 : goal.returns-in_err-valid-3
-unfolding procedure_at
-returns-in_err-valid-3 c =
-    valid_ends _ _ _ _ c.from_residual-in_err-valid-3.result (c.is_result.ensures ∙ many is_result c.args.exports.now c.args.before.now _) c.from_residual-in_err-valid-3.ensures.1 c.in_err-valid-3.ensures
-    (onwards _ _ c.in_ok-cells.ensures (valid_onwards _ _ (c.is_params.ensures ∙ many is_params c.args.exports.now c.args.before.now _) c.in_ok-valid-2.ensures (onwards _ _ c.in_ok-params.ensures (valid_onwards _ _ (c.is_outer.ensures ∙ many is_outer c.args.exports.now c.args.before.now _) c.in_ok-valid.ensures (onwards _ _ c.in_ok-outer.ensures refl)))))
-
-pub returns-in_err-locals : goal.returns-in_err-locals
-unfolding procedure_at
-returns-in_err-locals c =
-    ends_there _ _ _ _ c.from_residual-in_err-locals.result c.from_residual-in_err-locals.ensures.1 c.in_err-locals.ensures
-    (valid_onwards _ _ (c.is_result.ensures ∙ many is_result c.args.exports.now c.args.before.now _) c.in_ok-valid-3.ensures (onwards _ _ c.in_ok-cells.ensures (valid_onwards _ _ (c.is_params.ensures ∙ many is_params c.args.exports.now c.args.before.now _) c.in_ok-valid-2.ensures (onwards _ _ c.in_ok-params.ensures (valid_onwards _ _ (c.is_outer.ensures ∙ many is_outer c.args.exports.now c.args.before.now _) c.in_ok-valid.ensures (onwards _ _ c.in_ok-outer.ensures refl))))))
-
-pub returns-in_err-valid-4 : goal.returns-in_err-valid-4
-unfolding procedure_at
-returns-in_err-valid-4 c =
-    valid_ends _ _ _ _ c.from_residual-in_err-valid-4.result c.is_locals.ensures c.from_residual-in_err-valid-4.ensures.1 c.in_err-valid-4.ensures
-    (onwards _ _ c.in_ok-locals.ensures (valid_onwards _ _ (c.is_result.ensures ∙ many is_result c.args.exports.now c.args.before.now _) c.in_ok-valid-3.ensures (onwards _ _ c.in_ok-cells.ensures (valid_onwards _ _ (c.is_params.ensures ∙ many is_params c.args.exports.now c.args.before.now _) c.in_ok-valid-2.ensures (onwards _ _ c.in_ok-params.ensures (valid_onwards _ _ (c.is_outer.ensures ∙ many is_outer c.args.exports.now c.args.before.now _) c.in_ok-valid.ensures (onwards _ _ c.in_ok-outer.ensures refl)))))))
+    (read_is c.args.exports.now c.args.before.now c.args.bytes.now.now)
 
 pub returns-in_err-high : goal.returns-in_err-high
-unfolding procedure_at
 returns-in_err-high c =
     ends_there _ _ _ _ c.from_residual-in_err-high.result c.from_residual-in_err-high.ensures.1 c.in_err-high.ensures
-    (valid_onwards _ _ c.is_locals.ensures c.in_ok-valid-4.ensures (onwards _ _ c.in_ok-locals.ensures (valid_onwards _ _ (c.is_result.ensures ∙ many is_result c.args.exports.now c.args.before.now _) c.in_ok-valid-3.ensures (onwards _ _ c.in_ok-cells.ensures (valid_onwards _ _ (c.is_params.ensures ∙ many is_params c.args.exports.now c.args.before.now _) c.in_ok-valid-2.ensures (onwards _ _ c.in_ok-params.ensures (valid_onwards _ _ (c.is_outer.ensures ∙ many is_outer c.args.exports.now c.args.before.now _) c.in_ok-valid.ensures (onwards _ _ c.in_ok-outer.ensures refl))))))))
+    (onwards _ _ c.in_ok-outer.ensures (read_is c.args.exports.now c.args.before.now c.args.bytes.now.now))
 
 pub returns-in_err-strings : goal.returns-in_err-strings
-unfolding procedure_at
 returns-in_err-strings c =
     ends_there _ _ _ _ c.from_residual-in_err-strings.result c.from_residual-in_err-strings.ensures.1 c.in_err-strings.ensures
-    (onwards _ _ c.in_ok-high.ensures (valid_onwards _ _ c.is_locals.ensures c.in_ok-valid-4.ensures (onwards _ _ c.in_ok-locals.ensures (valid_onwards _ _ (c.is_result.ensures ∙ many is_result c.args.exports.now c.args.before.now _) c.in_ok-valid-3.ensures (onwards _ _ c.in_ok-cells.ensures (valid_onwards _ _ (c.is_params.ensures ∙ many is_params c.args.exports.now c.args.before.now _) c.in_ok-valid-2.ensures (onwards _ _ c.in_ok-params.ensures (valid_onwards _ _ (c.is_outer.ensures ∙ many is_outer c.args.exports.now c.args.before.now _) c.in_ok-valid.ensures (onwards _ _ c.in_ok-outer.ensures refl)))))))))
+    (onwards _ _ c.in_ok-high.ensures (onwards _ _ c.in_ok-outer.ensures (read_is c.args.exports.now c.args.before.now c.args.bytes.now.now)))
 
 pub returns-in_err-code : goal.returns-in_err-code
-unfolding procedure_at
 returns-in_err-code c =
     ends_there _ _ _ _ c.from_residual-in_err-code.result c.from_residual-in_err-code.ensures.1 c.in_err-code.ensures
-    (onwards _ _ c.in_ok-strings.ensures (onwards _ _ c.in_ok-high.ensures (valid_onwards _ _ c.is_locals.ensures c.in_ok-valid-4.ensures (onwards _ _ c.in_ok-locals.ensures (valid_onwards _ _ (c.is_result.ensures ∙ many is_result c.args.exports.now c.args.before.now _) c.in_ok-valid-3.ensures (onwards _ _ c.in_ok-cells.ensures (valid_onwards _ _ (c.is_params.ensures ∙ many is_params c.args.exports.now c.args.before.now _) c.in_ok-valid-2.ensures (onwards _ _ c.in_ok-params.ensures (valid_onwards _ _ (c.is_outer.ensures ∙ many is_outer c.args.exports.now c.args.before.now _) c.in_ok-valid.ensures (onwards _ _ c.in_ok-outer.ensures refl))))))))))
+    (onwards _ _ c.in_ok-strings.ensures (onwards _ _ c.in_ok-high.ensures (onwards _ _ c.in_ok-outer.ensures (read_is c.args.exports.now c.args.before.now c.args.bytes.now.now))))
 
 pub returns : goal.returns
-unfolding procedure_at
 returns c =
-    onwards _ _ c.in_ok-code.ensures (onwards _ _ c.in_ok-strings.ensures (onwards _ _ c.in_ok-high.ensures (valid_onwards _ _ c.is_locals.ensures c.in_ok-valid-4.ensures (onwards _ _ c.in_ok-locals.ensures (valid_onwards _ _ (c.is_result.ensures ∙ many is_result c.args.exports.now c.args.before.now _) c.in_ok-valid-3.ensures (onwards _ _ c.in_ok-cells.ensures (valid_onwards _ _ (c.is_params.ensures ∙ many is_params c.args.exports.now c.args.before.now _) c.in_ok-valid-2.ensures (onwards _ _ c.in_ok-params.ensures (valid_onwards _ _ (c.is_outer.ensures ∙ many is_outer c.args.exports.now c.args.before.now _) c.in_ok-valid.ensures (onwards _ _ c.in_ok-outer.ensures refl))))))))))
+    onwards _ _ c.in_ok-code.ensures (onwards _ _ c.in_ok-strings.ensures (onwards _ _ c.in_ok-high.ensures (onwards _ _ c.in_ok-outer.ensures (read_is c.args.exports.now c.args.before.now c.args.bytes.now.now))))
