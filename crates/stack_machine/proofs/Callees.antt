@@ -1,17 +1,20 @@
 -- What a value that is called is.
-use Rattle.std.proofs.Common.{◌≡◌, ◌≢◌, ℕ, ◌-◌, Bool, true, false, cond, ltb, eqb, List, length, Option, Some, None, refl, sym, ap, ◌∙◌, subst, ℤ, pos, ◌⊎◌, inl, inr, get_or}
+use Rattle.std.proofs.Common.{◌≡◌, ◌≢◌, ℕ, ◌+◌, ◌-◌, Bool, true, false, cond, ltb, eqb, List, length, Option, Some, None, refl, sym, ap, ◌∙◌, subst, ℤ, pos, ◌⊎◌, inl, inr, get_or, FitsSigned, w64, to_z, of_z}
 use Rattle.std.specs.Prelude.{slice_get, is_none, ◌&&◌, int_lt, unsigned_abs}
 use Rattle.std.proofs.lemmas.Bool.Decides.{eqb_tells}
 use Rattle.std.proofs.lemmas.Bool.{false≢true}
+use Rattle.std.proofs.lemmas.Int.{to_z-of_z}
 use Rattle.std.proofs.lemmas.Option.{slice_get-get_or}
 use Rattle.stack_machine.proofs.Links.{within}
 use Rattle.stack_machine.specs.declared.code.Routine.{Routine}
+use Rattle.stack_machine.specs.declared.code.Origin.{Origin}
 use Rattle.stack_machine.specs.declared.code.Callee.{Callee}
 use Rattle.stack_machine.specs.declared.code.Callee.TheVariants as callees
 use Rattle.stack_machine.specs.declared.op.Service.{Service}
 use Rattle.stack_machine.specs.InOut.{params_of, services}
 use Rattle.stack_machine.specs.State.{Program}
-use Rattle.stack_machine.specs.Step.{routine_if, service_if, numbered, callee_of}
+use Rattle.stack_machine.specs.Ready.{AreBodies, IsSmall}
+use Rattle.stack_machine.specs.Step.{body_after, body_behind, routine_if, service_if, numbered, callee_of}
 
 equal_by : (m n : ℕ) → eqb m n ≡ true → m ≡ n
 equal_by m n e = chosen (eqb_tells m n) where
@@ -86,8 +89,19 @@ callee_routine p v n r k e = callee_means p v n r (callees.Routine k) e
 pub callee_service : (p : Program) (v : ℤ) (n r : ℕ) (w : Service) → callee_of p v n r ≡ Some (callees.Service w) → IsService p n r w
 callee_service p v n r w e = callee_means p v n r (callees.Service w) e
 
+-- the value is handed on
+pub callee_told : (p : Program) (z t : ℤ) (n r : ℕ) (found : Option Callee) → FitsSigned w64 z → z ≡ t → found ≡ callee_of p (to_z w64 (of_z w64 z)) n r → callee_of p t n r ≡ found
+callee_told p z t n r found fits e is = ap (λ (v : ℤ). callee_of p v n r) (sym (to_z-of_z w64 z fits ∙ e)) ∙ sym is
+
 -- what stands at a place
 pub found : (routines : List Routine) (k : ℕ) (q r : Routine) → slice_get routines k ≡ Some q → r ≡ get_or routines k r → q ≡ r
 found routines k q r is e = some_is q r (sym is ∙ slice_get-get_or routines k r (within routines k q is) ∙ ap Some (sym e)) where
   some_is : (x y : Routine) → Some x ≡ Some y → x ≡ y
   some_is x y e = cc
+
+-- the body behind a place is a procedure
+pub body_is : (p : Program) (at k : ℕ) → AreBodies p → body_behind p at ≡ Some k → (q : Routine) × (slice_get p.routines k ≡ Some q) × IsSmall q
+body_is p at k bodies is = chosen (slice_get p.origins at) is where
+  chosen : (o : Option Origin) → body_after p.bodies o ≡ Some k → (q : Routine) × (slice_get p.routines k ≡ Some q) × IsSmall q
+  chosen None e = absurd cc
+  chosen (Some o) e = bodies (o.«module» + 1) k e

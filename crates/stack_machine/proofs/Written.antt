@@ -1,6 +1,6 @@
 -- Bytes written after others.
 use Rattle.std.proofs.Common.{◌≡◌, ℕ, zero, suc, ◌+◌, ◌-◌, ◌/◌, ◌%◌, ◌<◌, ◌≤◌, ◌^◌, List, [], ◌∷◌, ◌++◌, length, take, min, Option, Some, None, refl, sym, ap, ◌∙◌, subst, arith, append_assoc}
-use Rattle.std.specs.Prelude.{decimal, replicate, Result, Ok, Err, OnErr}
+use Rattle.std.specs.Prelude.{decimal, replicate, Result, Ok, Err, OnErr, OnOk}
 use Rattle.std.proofs.lemmas.List.{append-nil, length-append}
 use Rattle.std.proofs.lemmas.Fmt.{decimal_digit, decimal_step}
 use Rattle.std.specs.Prelude.{ℤ, pos, negsuc, unsigned_abs, Bool, true, false}
@@ -10,7 +10,9 @@ use Rattle.std.proofs.lemmas.Bool.{false≢true, le-ltb, leb-false, leb-true, lt
 use Rattle.std.proofs.lemmas.Int.{to_z-of_z}
 use Rattle.stack_machine.specs.declared.printing.Char.{Char}
 use Rattle.stack_machine.specs.declared.printing.Char.TheVariants as chars
-use Rattle.stack_machine.specs.InOut.{Text, text_at, char_at, begun, number_digits, padded}
+use Rattle.stack_machine.specs.InOut.{Text, text_at, text_from, string_of, char_at, begun, number_digits, padded}
+use Rattle.stack_machine.specs.Numbers.{count_of}
+use Rattle.stack_machine.specs.Operands.{top_of}
 use Rattle.m2_io.specs.Written.{with_bytes, WritesPart}
 use Rattle.m2_io.specs.Causes.{Rose}
 
@@ -114,6 +116,13 @@ wide n v blanks size all fits fits' test is all_is size_is =
     ap (λ (k : ℕ). replicate k 32 ++ number_digits (to_z w64 (of_z w64 v))) count ∙ ap (λ (t : List ℕ). replicate (unsigned_abs n - length (number_digits v)) 32 ++ t) digits
     ∙ wide_is n (number_digits v) (subst (λ (z : ℤ). le_z z (pos 0) ≡ false) same test)
 
+-- the text of an open array, as its address and its number of cells are handed on
+pub string_told : (cells now : List ℤ) (operands : List ℤ) (high address : ℤ) (n : ℕ) → now ≡ cells → FitsSigned w64 high → FitsSigned w64 address → high ≡ top_of 0 operands → address ≡ top_of 1 operands → n ≡ count_of (to_z w64 (of_z w64 high)) → text_from now n (to_z w64 (of_z w64 address)) ≡ string_of cells operands
+string_told cells now operands high address n same high_fits address_fits high_is address_is count =
+    let z = to_z w64 (of_z w64 address) in
+    ap (λ (xs : List ℤ). text_from xs n z) same ∙ ap (λ (k : ℕ). text_from cells k z) (count ∙ ap count_of (to_z-of_z w64 high high_fits ∙ high_is))
+    ∙ ap (text_from cells (count_of (top_of 0 operands))) (to_z-of_z w64 address address_fits ∙ address_is)
+
 -- ---- blanks
 
 same_more : (b i : ℕ) → replicate i b ++ b ∷ [] ≡ replicate (suc i) b
@@ -212,3 +221,7 @@ fails cells n i at0 at old mid new first now b lt p is h =
 pub on_err : {T E Q : Type 0} (r : Result T E) → Q → OnErr r Q
 on_err (Ok x) q = tt
 on_err (Err e) q = q
+
+pub on_ok : {T E Q : Type 0} (r : Result T E) → Q → OnOk r Q
+on_ok (Ok x) q = q
+on_ok (Err e) q = tt
