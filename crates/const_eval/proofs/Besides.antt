@@ -1,6 +1,7 @@
 -- Two operands beside each other.
-use Rattle.std.proofs.Common.{◌≡◌, ◌∙◌, ℕ, Bool, true, false, [], ◌∷◌, Some, None, refl, sym, ap, if◌then◌else◌}
+use Rattle.std.proofs.Common.{◌≡◌, ◌∙◌, ℕ, Bool, true, false, [], ◌∷◌, Some, None, refl, sym, ap, if◌then◌else◌, ℤ}
 use Rattle.std.specs.Prelude.{◌&&◌}
+use Rattle.std.proofs.lemmas.Bool.{false≢true, true≢false}
 use Rattle.m2_base.specs.Gives.{Gives, gives}
 use Rattle.m2_base.specs.Rows.{is_same_place}
 use Rattle.m2_base.specs.Standard.{character, whole}
@@ -15,6 +16,10 @@ use Rattle.m2_base.specs.declared.operands.Operand.{Operand}
 use Rattle.m2_base.specs.declared.operands.Operand.TheVariants.{Constant, InError, StringConstant}
 use Rattle.m2_base.specs.declared.notes.Diag.{Diag}
 use Rattle.m2_base.specs.declared.rows.Place.{Place}
+use Rattle.m2_base.specs.Statics.NamedOperands.{operand_by}
+use Rattle.m2_base.specs.declared.rows.Mode.{Mode}
+use Rattle.m2_base.specs.declared.rows.RowMeaning.{RowMeaning}
+use Rattle.m2_base.specs.declared.rows.RowMeaning.TheVariants.{Const, Module, Proc, Standard, TypeName, Var}
 use Rattle.const_eval.specs.Numbers.{takes_base}
 
 -- an operand as it is taken, by the test
@@ -24,7 +29,7 @@ taken_by source scene x y b e = ap (λ t. if t then as_char source x else x) e
 -- a string that is taken as a CHAR has that type
 pub char_taken : (c : Context) (x y : Operand) → base_of c.scene character ≡ character → true ≡ is_beside_char c.scene x y → character ≡ base_type c (taken_beside c.source c.scene x y)
 char_taken c (StringConstant n l) y base e = sym base ∙ ap (base_type c) (taken_by c.source c.scene (StringConstant n l) y true e)
-char_taken c x y base e = absurd (cc)
+char_taken c x y base e = absurd (true≢false e)
 
 -- what stands under a condition that holds
 pub some_where : {T : Type 0} (b : Bool) (p q : T) → b ≡ true → p ≡ q → Some p ≡ (if b then Some q else None)
@@ -49,8 +54,8 @@ takes_number (Constant u v) t e = go (is_same_place u whole) e
   where
     go : (b : Bool) → (b && is_integer_or_cardinal t) ≡ true → is_integer_or_cardinal t ≡ true
     go true e = e
-    go false e = absurd (cc)
-takes_number x t e = absurd (cc)
+    go false e = absurd (false≢true e)
+takes_number x t e = absurd (false≢true e)
 
 nothing_is : (d : Diag) → [] ≡ d ∷ [] → ⊥
 nothing_is d e = absurd (cc)
@@ -64,8 +69,19 @@ number_taken c at t (Constant u v) y base takes e =
     go : (b : Bool) → gives y ≡ (if b then gives (Constant t v) else refuse c at out_of_range InError) → t ≡ base_type c y
     go true e = sym (base (takes_number (Constant u v) t takes)) ∙ ap (base_type c) (sym (ap (λ (g : Gives Operand). g.value) e))
     go false e = absurd (nothing_is (diag c at out_of_range) (ap (λ (g : Gives Operand). g.diags) e))
-number_taken c at t x y base takes e = absurd (cc)
+number_taken c at t x y base takes e = absurd (false≢true takes)
 
 -- what doesn't keeps its own
 pub number_kept : (c : Context) (at : ℕ) (t : Place) (x y : Operand) → takes_base x t ≡ false → gives y ≡ as_number c at t x → x ≡ y
 number_kept c at t x y stays e = ap (λ (g : Gives Operand). g.value) (number_stays c at t x stays ∙ sym e)
+
+-- a row that no expression can name
+pub other_row : (scene : Scene) (name : ℕ) (m : RowMeaning) → ((t : Place) (v : ℤ) (l : ℕ) → m ≡ Const t v l → ⊥) → ((t : Place) → m ≡ TypeName t → ⊥) → ((t : Place) (mode : Mode) (o : ℕ) → m ≡ Var t mode o → ⊥)
+    → ((t : Place) (n s : ℕ) → m ≡ Proc t n s → ⊥) → ((s : ℕ) → m ≡ Module s → ⊥) → ((n : ℕ) → m ≡ Standard n → ⊥) → InError ≡ operand_by scene name m
+other_row scene name (Const t v l) a b c d e f = absurd (a t v l refl)
+other_row scene name (TypeName t) a b c d e f = absurd (b t refl)
+other_row scene name (Var t mode o) a b c d e f = absurd (c t mode o refl)
+other_row scene name (Proc t n s) a b c d e f = absurd (d t n s refl)
+other_row scene name (Module s) a b c d e f = absurd (e s refl)
+other_row scene name (Standard n) a b c d e f = absurd (f n refl)
+other_row scene name m a b c d e f = refl

@@ -5,6 +5,7 @@ pub mod ConstantCauses
 pub mod CallKinds
 pub mod Elements
 pub mod Folding
+pub mod Found
 pub mod FunctionArguments
 pub mod Judging
 pub mod Later

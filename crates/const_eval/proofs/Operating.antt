@@ -1,5 +1,5 @@
 -- What operators give, by what their operands' types are.
-use Rattle.std.proofs.Common.{◌≡◌, ◌≢◌, ◌∙◌, ℕ, Bool, true, false, refl, sym, ap, if◌then◌else◌}
+use Rattle.std.proofs.Common.{◌≡◌, ◌≢◌, ◌∙◌, ℕ, Bool, true, false, refl, sym, ap, if◌then◌else◌, ℤ}
 use Rattle.std.specs.Prelude.{◌&&◌, ◌||◌, is_some}
 use Rattle.m2_base.specs.Gives.{Gives, gives}
 use Rattle.m2_base.specs.Rows.{is_same_place}
@@ -8,7 +8,7 @@ use Rattle.m2_base.specs.Statics.Compatible.{is_pointer, is_pointer_kind}
 use Rattle.m2_base.specs.Statics.Contexts.{Context, Scene}
 use Rattle.m2_base.specs.Statics.Folding.{is_arithmetic, is_equality, is_relation, number_kind, number_type}
 use Rattle.m2_base.specs.Statics.Operands.{is_bad, is_procedure, worse}
-use Rattle.m2_base.specs.Statics.Operations.{apply_one, apply_one_by, base_type, gives_result, logical, number_operation, on_alike, on_scalars, operate, operate_by, wrong}
+use Rattle.m2_base.specs.Statics.Operations.{apply_one, apply_one_by, base_type, gives_result, logical, number_operation, on_alike, on_scalars, operate, operate_by, wrong, with_sign}
 use Rattle.m2_base.specs.Statics.Types.{kind_of, range_by, range_of}
 use Rattle.m2_base.specs.declared.trees.operators.Operator.{Operator}
 use Rattle.m2_base.specs.declared.trees.operators.Operator.TheVariants.{And, Div, In, Minus, Mod, Or, Plus, Times}
@@ -16,6 +16,8 @@ use Rattle.m2_base.specs.declared.operands.FoldKind.TheVariants as kinds
 use Rattle.m2_base.specs.declared.operands.Operand.{Operand}
 use Rattle.m2_base.specs.declared.rows.Place.{Place}
 use Rattle.m2_base.specs.declared.rows.RowMeaning.{RowMeaning}
+use Rattle.m2_base.specs.Statics.Ranges.{Range}
+use Rattle.m2_base.specs.declared.operands.Operand.TheVariants.{Computed, Constant}
 use Rattle.const_eval.proofs.Refusals.{and_false, or_true}
 
 -- before one operand
@@ -101,3 +103,8 @@ relation_result c op at x y base same is =
     ap (λ t. gives_result c at (number_kind t) op boolean x y) same
     ∙ sym (ap (λ b. let k = number_kind (base_type c x) in if b then gives_result c at k op (number_type k) x y else if is_relation op then gives_result c at k op boolean x y else wrong c at) (relation_alone op is)
     ∙ ap (λ b. let k = number_kind (base_type c x) in if b then gives_result c at k op boolean x y else wrong c at) is)
+
+-- a sign on what is no constant
+pub unsigned : (c : Context) (op : Operator) (at : ℕ) (t : Place) (r : Range) (x : Operand) → ((u : Place) (v : ℤ) → x ≡ Constant u v → ⊥) → gives (Computed t) ≡ with_sign c op at t r x
+unsigned c op at t r (Constant u v) other = absurd (other u v refl)
+unsigned c op at t r x other = refl

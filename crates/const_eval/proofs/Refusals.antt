@@ -116,3 +116,11 @@ module _ (c : Context) (op : Operator) (at : ℕ) (x : Operand) (x_at : ℕ) (y 
 
   pub alike_by : (b : Bool) → b ≡ are_sets_alike c x y → (if b then set_operation c op at x y else values (is_compatible c.scene x y)) ≡ on_alike c op at x x_at y y_at
   alike_by b e = ap (λ t. if t then set_operation c op at x y else values (is_compatible c.scene x y)) e
+
+-- the left operand may stand, and the right one is refused
+pub refused_right : (c : Context) (op : Operator) (at : ℕ) (x kept : Operand) (x_at : ℕ) (y : Operand) (y_at : ℕ) (f : Fault) → is_arithmetic op || is_relation op ≡ true
+    → judged c (Ok kept) ≡ as_number c x_at (base_type c y) x → judged c (Err f) ≡ as_number c y_at (base_type c x) y → judged c (Err f) ≡ on_numbers c op at x x_at y y_at
+refused_right c op at x kept x_at y y_at f number e h =
+    sym (ap (λ (g : Gives Operand). and_then (judged c (Err f)) (λ y'. g)) (operation_bad c op at kept InError number (or_true (is_bad kept))))
+    ∙ ap (λ (g : Gives Operand). and_then g (λ y'. number_operation c op at kept y')) h
+    ∙ stands_left c op at x kept x_at y y_at number e

@@ -3,6 +3,9 @@ use Rattle.std.proofs.Common.{ℕ, ◌<◌, length, sym, subst, arith}
 use Rattle.m2_base.specs.Rows.{at_place}
 use Rattle.m2_base.specs.States.{Frame}
 use Rattle.m2_base.specs.Statics.Operands.{operand_type}
+use Rattle.m2_base.specs.Statics.Folding.{number_type}
+use Rattle.m2_base.specs.declared.operands.FoldKind.{FoldKind}
+use Rattle.m2_base.specs.declared.operands.FoldKind.TheVariants.{Cardinal, Integer}
 use Rattle.m2_base.specs.declared.operands.Operand.{Operand}
 use Rattle.m2_base.specs.declared.operands.Operand.TheVariants.{Constant, StringConstant, Computed, Variable, NamedType, Procedure}
 use Rattle.m2_base.specs.declared.sites.Around.{Around}
@@ -15,6 +18,11 @@ use Rattle.const_eval.specs.Sites.{IsNamed, IsOperand, IsSmallConstant}
 pub standard_there : {f : Frame} {a : Around} → Suits f a → (n : ℕ) → IsThere f (at_place 0 n)
 standard_there {f} {a} suits n =
     record { scope = omega arith; entered = λ same open_yet. let inner = suits.inner in absurd (omega (arith, same, inner)) }
+
+pub number_there : {f : Frame} {a : Around} → Suits f a → (k : FoldKind) → IsThere f (number_type k)
+number_there suits Integer = standard_there suits 0
+number_there suits Cardinal = standard_there suits 1
+number_there suits k = standard_there suits 9
 
 pub type_there : {f : Frame} {a : Around} → Suits f a → (o : Operand) → IsOperand f o → IsThere f (operand_type o)
 type_there suits (Constant t v) h = h.0

@@ -46,10 +46,10 @@ pub fn note(
 {
     match asked {
         Ask::Known(Ok(operand)) => Ok(Ask::Known(operand)),
-        Ask::Known(Err(fault)) => {
-            refuse(text, fault, notes)?;
-            Ok(Ask::Known(Operand::InError))
-        }
+        Ask::Known(Err(fault)) => match refuse(text, fault, notes) {
+            Ok(()) => Ok(Ask::Known(Operand::InError)),
+            Err(memory) => Err(memory),
+        },
         Ask::DontKnowYet(head) => Ok(Ask::DontKnowYet(head)),
     }
 }
@@ -72,10 +72,10 @@ pub fn note_type(
 {
     match asked {
         Ask::Known(Ok(of)) => Ok(Ask::Known(of)),
-        Ask::Known(Err(fault)) => {
-            refuse(text, fault, notes)?;
-            Ok(Ask::Known(BROKEN))
-        }
+        Ask::Known(Err(fault)) => match refuse(text, fault, notes) {
+            Ok(()) => Ok(Ask::Known(BROKEN)),
+            Err(memory) => Err(memory),
+        },
         Ask::DontKnowYet(head) => Ok(Ask::DontKnowYet(head)),
     }
 }

@@ -110,3 +110,36 @@ returns-in_default g c =
     value_everywhere now c.args.notes.now c.args.site.now c.no_constant-in_default.result IsOperand (λ k. call_with k c.args.to.at c.args.to.operand c.args.args)
     (c.no_constant-in_default.ensures.there now.frame)
     (λ k. ap (λ o. gives o) c.no_constant-in_default.ensures.told ∙ other_called k c.args.to.at c.args.to.operand c.args.args c.in_default.not-StandardProcedure c.in_default.not-ModuleName c.in_default.not-InError)
+
+pub call_kind-requires : goal.call_kind-requires
+call_kind-requires g c = tt
+
+pub fault_noted-requires : goal.fault_noted-requires
+fault_noted-requires g c = tt
+
+pub fault_noted-requires-in-ModuleName : goal.fault_noted-requires-in-ModuleName
+fault_noted-requires-in-ModuleName g c = tt
+
+pub no_constant-requires : goal.no_constant-requires
+no_constant-requires g c = tt
+
+pub no_constant-requires-in_default : goal.no_constant-requires-in_default
+no_constant-requires-in_default g c = tt
+
+pub standard_procedure-requires : goal.standard_procedure-requires
+standard_procedure-requires g c = tt
+
+pub value_noted-requires : goal.value_noted-requires
+value_noted-requires g c = tt
+
+pub value_noted-requires-in-OfTypeAndValue : goal.value_noted-requires-in-OfTypeAndValue
+value_noted-requires-in-OfTypeAndValue g c = tt
+
+pub of_type_noted-requires-clause-suits : goal.of_type_noted-requires-clause-suits
+of_type_noted-requires-clause-suits g c = c.requires.suits
+
+pub of_value_noted-requires-clause-suits : goal.of_value_noted-requires-clause-suits
+of_value_noted-requires-clause-suits g c = c.requires.suits
+
+pub val_of_operand-requires-clause-suits : goal.val_of_operand-requires-clause-suits
+val_of_operand-requires-clause-suits g c = c.requires.suits

@@ -17,3 +17,15 @@ returns g c =
           rw (w.scopes-is, w.in-Size.is) (noted_operand c.args.notes.now c.note.new.notes c.args.site.now w.size_value-given.result c.note.result (λ k. of_type k Size c.args.x.at c.args.x.operand)
           noted.answers noted.diags noted.waits noted.there noted.told w.size_value-given.ensures.reads w.size_value-given.ensures.waits w.size_value-given.ensures.told w.size_value-given.ensures.there)
     ]
+
+pub extreme_of-given-requires : goal.extreme_of-given-requires
+extreme_of-given-requires g c = record { suits = c.requires.suits; x = c.requires.x }
+
+pub extreme_of-given-requires-in-Max : goal.extreme_of-given-requires-in-Max
+extreme_of-given-requires-in-Max g c = record { suits = c.requires.suits; x = c.requires.x }
+
+pub size_value-given-requires : goal.size_value-given-requires
+size_value-given-requires g c = record { suits = c.requires.suits; x = c.requires.x }
+
+pub note-requires : goal.note-requires
+note-requires g c = tt

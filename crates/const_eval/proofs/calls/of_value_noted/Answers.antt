@@ -23,3 +23,21 @@ returns g c =
           rw (w.scopes-is, w.in-Ord.is) (noted_operand c.args.notes.now c.note.new.notes c.args.site.now w.ord_of-given.result c.note.result (λ k. of_value k Ord c.args.x.at c.args.x.operand)
           noted.answers noted.diags noted.waits noted.there noted.told w.ord_of-given.ensures.reads w.ord_of-given.ensures.waits w.ord_of-given.ensures.told w.ord_of-given.ensures.there)
     ]
+
+pub abs_of-given-requires : goal.abs_of-given-requires
+abs_of-given-requires g c = record { suits = c.requires.suits; x = c.requires.x }
+
+pub cap_of-given-requires : goal.cap_of-given-requires
+cap_of-given-requires g c = record { suits = c.requires.suits; x = c.requires.x }
+
+pub chr_of-given-requires : goal.chr_of-given-requires
+chr_of-given-requires g c = record { suits = c.requires.suits; x = c.requires.x }
+
+pub odd_of-given-requires : goal.odd_of-given-requires
+odd_of-given-requires g c = record { suits = c.requires.suits; x = c.requires.x }
+
+pub ord_of-given-requires : goal.ord_of-given-requires
+ord_of-given-requires g c = record { suits = c.requires.suits; x = c.requires.x }
+
+pub note-requires : goal.note-requires
+note-requires g c = tt

@@ -48,3 +48,12 @@ returns g c =
     (λ k. and_then (ordinal_argument k c.args.x.at c.args.x.operand) (λ v. val_as k c.args.x.at c.in-Known.value v))
     c.note.ensures.answers c.note.ensures.diags c.note.ensures.waits c.note.ensures.there c.note.ensures.told
     c.val_of-given.ensures.reads c.val_of-given.ensures.waits c.val_of-given.ensures.told c.val_of-given.ensures.there)
+
+pub note-requires : goal.note-requires
+note-requires g c = tt
+
+pub note_type-requires : goal.note_type-requires
+note_type-requires g c = tt
+
+pub ordinal_type_argument-asked-requires : goal.ordinal_type_argument-asked-requires
+ordinal_type_argument-asked-requires g c = record { suits = c.requires.suits; x = c.requires.of }

@@ -51,3 +51,9 @@ returns-clause-unspoilt g c = unspoilt (expr_view c.args.e.now) c.constant_or_re
 
 pub returns-clause-caused : goal.returns-clause-caused
 returns-clause-caused g c = caused (expr_view c.args.e.now) c.constant_or_refused.result c.requires.suits (returns-clause-analysed g c)
+
+pub constant_or_refused-requires : goal.constant_or_refused-requires
+constant_or_refused-requires g c = tt
+
+pub value_in-requires : goal.value_in-requires
+value_in-requires g c = record { suits = c.requires.suits; read = c.requires.read }

@@ -67,3 +67,9 @@ returns-in-Known c now h =
     described (Ok (Known None)) (and_after (λ k. refuse k c.args.at not_a_constant InError) (λ o k. gives None) (Ok (Known None)) (rw c.in-Known.is at c.in-Ok.ensures now)
     (value_everywhere now c.fault_noted.new.notes c.args.site.now None MayStand (λ k. gives None) tt (λ k. refl)))
     (λ k. none_given k c.args.at c.args.operand c.in_default.not-Constant c.in_default.not-StringConstant c.in_default.not-InError)
+
+pub eq-requires : goal.eq-requires
+eq-requires c = tt
+
+pub fault_noted-requires : goal.fault_noted-requires
+fault_noted-requires c = tt

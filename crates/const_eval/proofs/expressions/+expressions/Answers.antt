@@ -27,6 +27,7 @@ use Rattle.const_eval.specs.Parts.{arguments_in, called_in, index_in, member_in,
 use Rattle.const_eval.specs.Sites.{AreArguments, IsOperand}
 use Rattle.const_eval.proofs.Analysing.{and_after, described, failed, noted_type, quiet, value_alone, value_everywhere, waiting}
 use Rattle.const_eval.proofs.Folding.{and_then_gives, and_then_same, argument_in, arguments_folded, called_given, elements_folded, folded, indices_folded, many_folded, nothing_summed, selectors_folded}
+use Rattle.const_eval.proofs.Found.{found, turned}
 use Rattle.const_eval.proofs.PartsGiven.{many_given, next_given, one_given, one_label_given, range_given}
 use Rattle.const_eval.proofs.ReadParts.{at_seen, char_told, char_value, designator_at_seen, designator_read, form_given, form_read, high_read, label_read, low_read, next_read, number_told, number_value, read_expr, read_label, read_next, read_selector, selector_read}
 use Rattle.const_eval.proofs.Sequences.{failed_after, failed_third, one_more, one_more_after, stands_after, stays_after, waiting_after, waiting_third, whole, whole_after}
@@ -44,7 +45,7 @@ value_in-operand_in-requires g t c κs within =
 
 pub value_in-returns-in-DontKnowYet : goal.value_in-returns-in-DontKnowYet
 value_in-returns-in-DontKnowYet g t c =
-    waiting (rw c.in-DontKnowYet.is at c.in-Ok.ensures)
+    waiting (found c.in-DontKnowYet.is c.in-Ok.ensures)
 
 pub value_in-returns-in-Err : goal.value_in-returns-in-Err
 value_in-returns-in-Err g t c =
@@ -52,7 +53,7 @@ value_in-returns-in-Err g t c =
 
 pub value_in-returns : goal.value_in-returns
 value_in-returns g t c =
-    let one = (rw c.in-Known.is at c.in-Ok.ensures) in
+    let one = (found c.in-Known.is c.in-Ok.ensures) in
     let two = c.value_noted.ensures (g.S.Scopes.state c.operand_in.new.scopes) (stands_after one) in
     described c.value_noted.result (and_after (λ k. operand_in k (expr_view c.args.e.now)) (λ o k. value_wanted k c.args.e.now.at o) c.value_noted.result one two)
     (λ k. ap (λ (at : ℕ). and_then (operand_in k (expr_view c.args.e.now)) (λ o. value_wanted k at o)) (sym (at_seen c.args.e.now)))
@@ -63,7 +64,7 @@ member_in-value_in-requires g t c κs within =
 
 pub member_in-returns-in-DontKnowYet : goal.member_in-returns-in-DontKnowYet
 member_in-returns-in-DontKnowYet g t c =
-    waiting (rw c.in-DontKnowYet.is at c.in-Ok.ensures)
+    waiting (found c.in-DontKnowYet.is c.in-Ok.ensures)
 
 pub member_in-returns-in-Err : goal.member_in-returns-in-Err
 member_in-returns-in-Err g t c =
@@ -71,19 +72,19 @@ member_in-returns-in-Err g t c =
 
 pub member_in-taken-requires-clause-suits : goal.member_in-taken-requires-clause-suits
 member_in-taken-requires-clause-suits g t c =
-    stays_after (λ (f : Frame). SuitsSite f c.args.site.now) (rw c.in-Known.is at c.in-Ok.ensures) c.requires.suits
+    stays_after (λ (f : Frame). SuitsSite f c.args.site.now) (found c.in-Known.is c.in-Ok.ensures) c.requires.suits
 
 pub member_in-taken-requires-clause-base : goal.member_in-taken-requires-clause-base
 member_in-taken-requires-clause-base g t c =
-    stays_after (λ (f : Frame). IsThere f c.args.base) (rw c.in-Known.is at c.in-Ok.ensures) c.requires.base
+    stays_after (λ (f : Frame). IsThere f c.args.base) (found c.in-Known.is c.in-Ok.ensures) c.requires.base
 
 pub member_in-taken-requires-clause-x : goal.member_in-taken-requires-clause-x
 member_in-taken-requires-clause-x g t c =
-    stands_after (rw c.in-Known.is at c.in-Ok.ensures)
+    stands_after (found c.in-Known.is c.in-Ok.ensures)
 
 pub member_in-returns : goal.member_in-returns
 member_in-returns g t c =
-    described c.taken.result (and_after (λ k. value_in k (expr_view c.args.e.now)) (λ v k. element_of k c.args.base c.args.e.now.at v) c.taken.result (rw c.in-Known.is at c.in-Ok.ensures) c.taken.ensures)
+    described c.taken.result (and_after (λ k. value_in k (expr_view c.args.e.now)) (λ v k. element_of k c.args.base c.args.e.now.at v) c.taken.result (found c.in-Known.is c.in-Ok.ensures) c.taken.ensures)
     (λ k. ap (λ (at : ℕ). and_then (value_in k (expr_view c.args.e.now)) (λ v. element_of k c.args.base at v)) (sym (at_seen c.args.e.now)))
 
 pub designator_in-name_operand-requires-clause-named : goal.designator_in-name_operand-requires-clause-named
@@ -92,7 +93,7 @@ designator_in-name_operand-requires-clause-named g t c =
 
 pub designator_in-returns-in-DontKnowYet : goal.designator_in-returns-in-DontKnowYet
 designator_in-returns-in-DontKnowYet g t c =
-    waiting (rw c.in-DontKnowYet.is at c.in-Ok.ensures)
+    waiting (found c.in-DontKnowYet.is c.in-Ok.ensures)
 
 pub designator_in-returns-in-Err : goal.designator_in-returns-in-Err
 designator_in-returns-in-Err g t c =
@@ -112,7 +113,7 @@ element_in-member_in-requires g t c κs within =
 
 pub element_in-returns-in-DontKnowYet : goal.element_in-returns-in-DontKnowYet
 element_in-returns-in-DontKnowYet g t c =
-    waiting (rw c.in-DontKnowYet.is at c.in-Ok.ensures)
+    waiting (found c.in-DontKnowYet.is c.in-Ok.ensures)
 
 pub element_in-returns-in-Err : goal.element_in-returns-in-Err
 element_in-returns-in-Err g t c =
@@ -124,12 +125,12 @@ element_in-with_elements-requires g t c =
 
 pub element_in-member_in-requires-in-Some : goal.element_in-member_in-requires-in-Some
 element_in-member_in-requires-in-Some g t c κs within =
-    let one = (rw c.in-Known.is at c.in-Ok.ensures) in
+    let one = (found c.in-Known.is c.in-Ok.ensures) in
     ((let small = high_smaller c.args.label.now c.in-Some.high c.in-Some.is in omega (arith, small, c.decreases)), (within, ((stays_after (λ (f : Frame). SuitsSite f c.args.site.now) one c.requires.suits), ((stays_after (λ (f : Frame). IsThere f c.args.of.base) one c.requires.base), high_read c.args.site.now.texts.now.names (expr_view (out-Label c.args.label.now).low) (expr_view c.in-Some.high) (rw (ap (option_map expr_view) c.in-Some.is) at (label_read c.args.site.now.texts.now.names c.args.label.now c.requires.read))))))
 
 pub element_in-returns-in-None : goal.element_in-returns-in-None
 element_in-returns-in-None g t c =
-    let one = (rw c.in-Known.is at c.in-Ok.ensures) in
+    let one = (found c.in-Known.is c.in-Ok.ensures) in
     let made = value_everywhere (g.S.Scopes.state c.member_in.new.scopes) c.member_in.new.notes c.args.site.now c.with_elements.result IsOperand (λ k. gives (with_elements c.args.of.set c.in-Known.value c.in-Known.value))
     (c.with_elements.ensures.there (g.S.Scopes.state c.member_in.new.scopes).frame (stays_after (λ (f : Frame). IsOperand f c.args.of.set) one c.requires.set)) (λ k. ap (λ o. gives o) c.with_elements.ensures.told) in
     described (Ok (Known c.with_elements.result)) (and_after (λ k. member_in k c.args.of.base (expr_view (out-Label c.args.label.now).low)) (λ x k. gives (with_elements c.args.of.set x x)) (Ok (Known c.with_elements.result)) one made)
@@ -138,11 +139,11 @@ element_in-returns-in-None g t c =
 
 pub element_in-returns-in-DontKnowYet-asked : goal.element_in-returns-in-DontKnowYet-asked
 element_in-returns-in-DontKnowYet-asked g t c =
-    waiting_after (rw c.in-Known.is at c.in-Ok.ensures) (rw c.in-DontKnowYet-asked.is at c.in-Ok-member_in.ensures)
+    waiting_after (found c.in-Known.is c.in-Ok.ensures) (found c.in-DontKnowYet-asked.is c.in-Ok-member_in.ensures)
 
 pub element_in-returns-in-Err-member_in : goal.element_in-returns-in-Err-member_in
 element_in-returns-in-Err-member_in g t c =
-    failed_after (rw c.in-Known.is at c.in-Ok.ensures) c.in-Err-member_in.ensures _
+    failed_after (found c.in-Known.is c.in-Ok.ensures) c.in-Err-member_in.ensures _
 
 pub element_in-with_elements-requires-in-Some : goal.element_in-with_elements-requires-in-Some
 element_in-with_elements-requires-in-Some g t c =
@@ -150,8 +151,8 @@ element_in-with_elements-requires-in-Some g t c =
 
 pub element_in-returns-in-Known-asked : goal.element_in-returns-in-Known-asked
 element_in-returns-in-Known-asked g t c =
-    let one = (rw c.in-Known.is at c.in-Ok.ensures) in
-    let two = (rw c.in-Known-asked.is at c.in-Ok-member_in.ensures) in
+    let one = (found c.in-Known.is c.in-Ok.ensures) in
+    let two = (found c.in-Known-asked.is c.in-Ok-member_in.ensures) in
     let made = value_everywhere (g.S.Scopes.state c.member_in-in-Some.new.scopes) c.member_in-in-Some.new.notes c.args.site.now c.with_elements-in-Some.result IsOperand (λ k. gives (with_elements c.args.of.set c.in-Known.value c.in-Known-asked.value))
     (c.with_elements-in-Some.ensures.there (g.S.Scopes.state c.member_in-in-Some.new.scopes).frame (stays_after (λ (f : Frame). IsOperand f c.args.of.set) two (stays_after (λ (f : Frame). IsOperand f c.args.of.set) one c.requires.set))) (λ k. ap (λ o. gives o) c.with_elements-in-Some.ensures.told) in
     let range = and_after (λ k. member_in k c.args.of.base (expr_view c.in-Some.high)) (λ y k. gives (with_elements c.args.of.set c.in-Known.value y)) (Ok (Known c.with_elements-in-Some.result)) two made in
@@ -161,7 +162,7 @@ element_in-returns-in-Known-asked g t c =
 
 pub set_in-returns-in-DontKnowYet : goal.set_in-returns-in-DontKnowYet
 set_in-returns-in-DontKnowYet g t c =
-    waiting (rw c.in-DontKnowYet.is at (quiet c.args.notes.now c.args.site.now c.set_base.result IsThere (λ k. set_base k c.args.of) c.set_base.ensures.reads c.set_base.ensures.waits c.set_base.ensures.told c.set_base.ensures.there))
+    waiting (found c.in-DontKnowYet.is (quiet c.args.notes.now c.args.site.now c.set_base.result IsThere (λ k. set_base k c.args.of) c.set_base.ensures.reads c.set_base.ensures.waits c.set_base.ensures.told c.set_base.ensures.there))
 
 pub set_in-no_elements-requires-clause-suits : goal.set_in-no_elements-requires-clause-suits
 set_in-no_elements-requires-clause-suits g t c =
@@ -173,16 +174,16 @@ set_in-no_elements-requires-clause-of g t c =
 
 pub set_in-returns-in-DontKnowYet-no_elements : goal.set_in-returns-in-DontKnowYet-no_elements
 set_in-returns-in-DontKnowYet-no_elements g t c =
-    waiting_after (quiet c.args.notes.now c.args.site.now c.set_base.result IsThere (λ k. set_base k c.args.of) c.set_base.ensures.reads c.set_base.ensures.waits c.set_base.ensures.told c.set_base.ensures.there) (rw c.in-DontKnowYet-no_elements.is at (quiet c.args.notes.now c.args.site.now c.no_elements.result IsOperand (λ k. no_elements k c.args.of) c.no_elements.ensures.reads c.no_elements.ensures.waits c.no_elements.ensures.told c.no_elements.ensures.there))
+    waiting_after (quiet c.args.notes.now c.args.site.now c.set_base.result IsThere (λ k. set_base k c.args.of) c.set_base.ensures.reads c.set_base.ensures.waits c.set_base.ensures.told c.set_base.ensures.there) (found c.in-DontKnowYet-no_elements.is (quiet c.args.notes.now c.args.site.now c.no_elements.result IsOperand (λ k. no_elements k c.args.of) c.no_elements.ensures.reads c.no_elements.ensures.waits c.no_elements.ensures.told c.no_elements.ensures.there))
 
 pub set_in-elements_in-requires : goal.set_in-elements_in-requires
 set_in-elements_in-requires g t c κs within =
-    (search rules, (within, ((stays_after (λ (f : Frame). SuitsSite f c.args.site.now) (quiet c.args.notes.now c.args.site.now c.no_elements.result IsOperand (λ k. no_elements k c.args.of) c.no_elements.ensures.reads c.no_elements.ensures.waits c.no_elements.ensures.told c.no_elements.ensures.there) (stays_after (λ (f : Frame). SuitsSite f c.args.site.now) (quiet c.args.notes.now c.args.site.now c.set_base.result IsThere (λ k. set_base k c.args.of) c.set_base.ensures.reads c.set_base.ensures.waits c.set_base.ensures.told c.set_base.ensures.there) c.requires.suits)), ((stays_after (λ (f : Frame). IsThere f c.in-Known.base) (quiet c.args.notes.now c.args.site.now c.no_elements.result IsOperand (λ k. no_elements k c.args.of) c.no_elements.ensures.reads c.no_elements.ensures.waits c.no_elements.ensures.told c.no_elements.ensures.there) (stands_after (rw c.in-Known.is at (quiet c.args.notes.now c.args.site.now c.set_base.result IsThere (λ k. set_base k c.args.of) c.set_base.ensures.reads c.set_base.ensures.waits c.set_base.ensures.told c.set_base.ensures.there)))), ((stands_after (rw c.in-Known-no_elements.is at (quiet c.args.notes.now c.args.site.now c.no_elements.result IsOperand (λ k. no_elements k c.args.of) c.no_elements.ensures.reads c.no_elements.ensures.waits c.no_elements.ensures.told c.no_elements.ensures.there))), c.requires.read)))))
+    (search rules, (within, ((stays_after (λ (f : Frame). SuitsSite f c.args.site.now) (quiet c.args.notes.now c.args.site.now c.no_elements.result IsOperand (λ k. no_elements k c.args.of) c.no_elements.ensures.reads c.no_elements.ensures.waits c.no_elements.ensures.told c.no_elements.ensures.there) (stays_after (λ (f : Frame). SuitsSite f c.args.site.now) (quiet c.args.notes.now c.args.site.now c.set_base.result IsThere (λ k. set_base k c.args.of) c.set_base.ensures.reads c.set_base.ensures.waits c.set_base.ensures.told c.set_base.ensures.there) c.requires.suits)), ((stays_after (λ (f : Frame). IsThere f c.in-Known.base) (quiet c.args.notes.now c.args.site.now c.no_elements.result IsOperand (λ k. no_elements k c.args.of) c.no_elements.ensures.reads c.no_elements.ensures.waits c.no_elements.ensures.told c.no_elements.ensures.there) (stands_after (found c.in-Known.is (quiet c.args.notes.now c.args.site.now c.set_base.result IsThere (λ k. set_base k c.args.of) c.set_base.ensures.reads c.set_base.ensures.waits c.set_base.ensures.told c.set_base.ensures.there)))), ((stands_after (found c.in-Known-no_elements.is (quiet c.args.notes.now c.args.site.now c.no_elements.result IsOperand (λ k. no_elements k c.args.of) c.no_elements.ensures.reads c.no_elements.ensures.waits c.no_elements.ensures.told c.no_elements.ensures.there))), c.requires.read)))))
 
 pub set_in-returns : goal.set_in-returns
 set_in-returns g t c =
-    and_after (λ k. gives (set_base k c.args.of)) (λ b k. elements_in k b (no_elements k c.args.of) (labels (map label_view c.args.items.now))) c.elements_in.result (rw c.in-Known.is at (quiet c.args.notes.now c.args.site.now c.set_base.result IsThere (λ k. set_base k c.args.of) c.set_base.ensures.reads c.set_base.ensures.waits c.set_base.ensures.told c.set_base.ensures.there))
-    (and_after (λ k. gives (no_elements k c.args.of)) (λ set k. elements_in k c.in-Known.base set (labels (map label_view c.args.items.now))) c.elements_in.result (rw c.in-Known-no_elements.is at (quiet c.args.notes.now c.args.site.now c.no_elements.result IsOperand (λ k. no_elements k c.args.of) c.no_elements.ensures.reads c.no_elements.ensures.waits c.no_elements.ensures.told c.no_elements.ensures.there)) c.elements_in.ensures)
+    and_after (λ k. gives (set_base k c.args.of)) (λ b k. elements_in k b (no_elements k c.args.of) (labels (map label_view c.args.items.now))) c.elements_in.result (found c.in-Known.is (quiet c.args.notes.now c.args.site.now c.set_base.result IsThere (λ k. set_base k c.args.of) c.set_base.ensures.reads c.set_base.ensures.waits c.set_base.ensures.told c.set_base.ensures.there))
+    (and_after (λ k. gives (no_elements k c.args.of)) (λ set k. elements_in k c.in-Known.base set (labels (map label_view c.args.items.now))) c.elements_in.result (found c.in-Known-no_elements.is (quiet c.args.notes.now c.args.site.now c.no_elements.result IsOperand (λ k. no_elements k c.args.of) c.no_elements.ensures.reads c.no_elements.ensures.waits c.no_elements.ensures.told c.no_elements.ensures.there)) c.elements_in.ensures)
 
 pub nexts_in-loop-next-init : goal.nexts_in-loop-next-init
 nexts_in-loop-next-init g t c =
@@ -202,11 +203,11 @@ elements_in-element_in-requires g t c κs within =
 
 pub elements_in-loop-label-preserved : goal.elements_in-loop-label-preserved
 elements_in-loop-label-preserved g t c =
-    one_more (λ k o i. element_in k c.args.of.base o (label_view i)) c.args.of.set c.args.items.now c.loop-label.label-index c.label-item.result c.loop-label-test.true c.label-item.is c.loop-label.invariant (rw c.in-Known.is at c.in-Ok.ensures)
+    one_more (λ k o i. element_in k c.args.of.base o (label_view i)) c.args.of.set c.args.items.now c.loop-label.label-index c.label-item.result c.loop-label-test.true c.label-item.is c.loop-label.invariant (found c.in-Known.is c.in-Ok.ensures)
 
 pub elements_in-returns-in-DontKnowYet : goal.elements_in-returns-in-DontKnowYet
 elements_in-returns-in-DontKnowYet g t c =
-    waiting_after c.loop-label.invariant (rw c.in-DontKnowYet.is at c.in-Ok.ensures)
+    waiting_after c.loop-label.invariant (found c.in-DontKnowYet.is c.in-Ok.ensures)
 
 pub elements_in-returns-in-Err : goal.elements_in-returns-in-Err
 elements_in-returns-in-Err g t c =
@@ -270,7 +271,7 @@ operand_in-designator_in-requires g t c κs within =
 
 pub operand_in-returns-in-DontKnowYet : goal.operand_in-returns-in-DontKnowYet
 operand_in-returns-in-DontKnowYet g t c =
-    waiting (rw c.in-DontKnowYet.is at c.in-Ok.ensures)
+    waiting (found c.in-DontKnowYet.is c.in-Ok.ensures)
 
 pub operand_in-returns-in-Err : goal.operand_in-returns-in-Err
 operand_in-returns-in-Err g t c =
@@ -278,45 +279,45 @@ operand_in-returns-in-Err g t c =
 
 pub operand_in-set_type_of-given-requires-clause-suits : goal.operand_in-set_type_of-given-requires-clause-suits
 operand_in-set_type_of-given-requires-clause-suits g t c =
-    stays_after (λ (f : Frame). SuitsSite f c.args.site.now) (rw c.in-Known.is at c.in-Ok.ensures) c.requires.suits
+    stays_after (λ (f : Frame). SuitsSite f c.args.site.now) (found c.in-Known.is c.in-Ok.ensures) c.requires.suits
 
 pub operand_in-set_type_of-given-requires-clause-x : goal.operand_in-set_type_of-given-requires-clause-x
 operand_in-set_type_of-given-requires-clause-x g t c =
-    stands_after (rw c.in-Known.is at c.in-Ok.ensures)
+    stands_after (found c.in-Known.is c.in-Ok.ensures)
 
 pub operand_in-returns-in-DontKnowYet-asked : goal.operand_in-returns-in-DontKnowYet-asked
 operand_in-returns-in-DontKnowYet-asked g t c =
     let noted = described c.note_type.result (noted_type c.designator_in.new.notes c.note_type.new.notes c.args.site.now c.set_type_of-given.result c.note_type.result (λ k. set_type_of k c.in-Some.name.first.at c.in-Known.value)
     c.note_type.ensures.answers c.note_type.ensures.diags c.note_type.ensures.waits c.note_type.ensures.there c.note_type.ensures.told
-    (standard_there (stays_after (λ (f : Frame). SuitsSite f c.args.site.now) (rw c.in-Known.is at c.in-Ok.ensures) c.requires.suits).around 10) c.set_type_of-given.ensures.reads c.set_type_of-given.ensures.waits c.set_type_of-given.ensures.told c.set_type_of-given.ensures.there)
+    (standard_there (stays_after (λ (f : Frame). SuitsSite f c.args.site.now) (found c.in-Known.is c.in-Ok.ensures) c.requires.suits).around 10) c.set_type_of-given.ensures.reads c.set_type_of-given.ensures.waits c.set_type_of-given.ensures.told c.set_type_of-given.ensures.there)
     (λ k. ap (λ (at : ℕ). set_type_of k at c.in-Known.value) (sym (designator_at_seen c.in-Some.name))) in
-    waiting_after (rw c.in-Known.is at c.in-Ok.ensures) (rw (c.in-Ok-note_type.is, c.in-DontKnowYet-asked.is) at noted)
+    waiting_after (found c.in-Known.is c.in-Ok.ensures) (found c.in-DontKnowYet-asked.is (turned c.in-Ok-note_type.is noted))
 
 pub operand_in-returns-in-Err-note_type : goal.operand_in-returns-in-Err-note_type
 operand_in-returns-in-Err-note_type g t c =
     let noted = described c.note_type.result (noted_type c.designator_in.new.notes c.note_type.new.notes c.args.site.now c.set_type_of-given.result c.note_type.result (λ k. set_type_of k c.in-Some.name.first.at c.in-Known.value)
     c.note_type.ensures.answers c.note_type.ensures.diags c.note_type.ensures.waits c.note_type.ensures.there c.note_type.ensures.told
-    (standard_there (stays_after (λ (f : Frame). SuitsSite f c.args.site.now) (rw c.in-Known.is at c.in-Ok.ensures) c.requires.suits).around 10) c.set_type_of-given.ensures.reads c.set_type_of-given.ensures.waits c.set_type_of-given.ensures.told c.set_type_of-given.ensures.there)
+    (standard_there (stays_after (λ (f : Frame). SuitsSite f c.args.site.now) (found c.in-Known.is c.in-Ok.ensures) c.requires.suits).around 10) c.set_type_of-given.ensures.reads c.set_type_of-given.ensures.waits c.set_type_of-given.ensures.told c.set_type_of-given.ensures.there)
     (λ k. ap (λ (at : ℕ). set_type_of k at c.in-Known.value) (sym (designator_at_seen c.in-Some.name))) in
-    failed_after (rw c.in-Known.is at c.in-Ok.ensures) (rw c.in-Err-note_type.is at noted) _
+    failed_after (found c.in-Known.is c.in-Ok.ensures) (turned c.in-Err-note_type.is noted) _
 
 pub operand_in-set_in-requires-in-Some : goal.operand_in-set_in-requires-in-Some
 operand_in-set_in-requires-in-Some g t c κs within =
     let noted = described c.note_type.result (noted_type c.designator_in.new.notes c.note_type.new.notes c.args.site.now c.set_type_of-given.result c.note_type.result (λ k. set_type_of k c.in-Some.name.first.at c.in-Known.value)
     c.note_type.ensures.answers c.note_type.ensures.diags c.note_type.ensures.waits c.note_type.ensures.there c.note_type.ensures.told
-    (standard_there (stays_after (λ (f : Frame). SuitsSite f c.args.site.now) (rw c.in-Known.is at c.in-Ok.ensures) c.requires.suits).around 10) c.set_type_of-given.ensures.reads c.set_type_of-given.ensures.waits c.set_type_of-given.ensures.told c.set_type_of-given.ensures.there)
+    (standard_there (stays_after (λ (f : Frame). SuitsSite f c.args.site.now) (found c.in-Known.is c.in-Ok.ensures) c.requires.suits).around 10) c.set_type_of-given.ensures.reads c.set_type_of-given.ensures.waits c.set_type_of-given.ensures.told c.set_type_of-given.ensures.there)
     (λ k. ap (λ (at : ℕ). set_type_of k at c.in-Known.value) (sym (designator_at_seen c.in-Some.name))) in
-    ((let small = set_smaller c.args.e.now c.in-Set.of c.in-Set.items c.in-Set.is in let same = ap (most size-Label) c.deref-in-Some.ensures.value in omega (arith, small, same, c.decreases)), (within, ((stays_after (λ (f : Frame). SuitsSite f c.args.site.now) (rw (c.in-Ok-note_type.is, c.in-Known-asked.is) at noted) (stays_after (λ (f : Frame). SuitsSite f c.args.site.now) (rw c.in-Known.is at c.in-Ok.ensures) c.requires.suits)), (stands_after (rw (c.in-Ok-note_type.is, c.in-Known-asked.is) at noted), (rw c.deref-in-Some.ensures.value (form_read c.args.site.now.texts.now.names c.args.e.now (Set (Some c.in-Some.name) c.in-Set.items) _ (c.in-Set.is ∙ ap (λ o. Set o c.in-Set.items) c.in-Some.is) (typed_set_seen c.in-Some.name c.in-Set.items) c.requires.read).1)))))
+    ((let small = set_smaller c.args.e.now c.in-Set.of c.in-Set.items c.in-Set.is in let same = ap (most size-Label) c.deref-in-Some.ensures.value in omega (arith, small, same, c.decreases)), (within, ((stays_after (λ (f : Frame). SuitsSite f c.args.site.now) (found c.in-Known-asked.is (turned c.in-Ok-note_type.is noted)) (stays_after (λ (f : Frame). SuitsSite f c.args.site.now) (found c.in-Known.is c.in-Ok.ensures) c.requires.suits)), (stands_after (found c.in-Known-asked.is (turned c.in-Ok-note_type.is noted)), (rw c.deref-in-Some.ensures.value (form_read c.args.site.now.texts.now.names c.args.e.now (Set (Some c.in-Some.name) c.in-Set.items) _ (c.in-Set.is ∙ ap (λ o. Set o c.in-Set.items) c.in-Some.is) (typed_set_seen c.in-Some.name c.in-Set.items) c.requires.read).1)))))
 
 pub operand_in-returns-in-Known-asked : goal.operand_in-returns-in-Known-asked
 operand_in-returns-in-Known-asked g t c =
     let noted = described c.note_type.result (noted_type c.designator_in.new.notes c.note_type.new.notes c.args.site.now c.set_type_of-given.result c.note_type.result (λ k. set_type_of k c.in-Some.name.first.at c.in-Known.value)
     c.note_type.ensures.answers c.note_type.ensures.diags c.note_type.ensures.waits c.note_type.ensures.there c.note_type.ensures.told
-    (standard_there (stays_after (λ (f : Frame). SuitsSite f c.args.site.now) (rw c.in-Known.is at c.in-Ok.ensures) c.requires.suits).around 10) c.set_type_of-given.ensures.reads c.set_type_of-given.ensures.waits c.set_type_of-given.ensures.told c.set_type_of-given.ensures.there)
+    (standard_there (stays_after (λ (f : Frame). SuitsSite f c.args.site.now) (found c.in-Known.is c.in-Ok.ensures) c.requires.suits).around 10) c.set_type_of-given.ensures.reads c.set_type_of-given.ensures.waits c.set_type_of-given.ensures.told c.set_type_of-given.ensures.there)
     (λ k. ap (λ (at : ℕ). set_type_of k at c.in-Known.value) (sym (designator_at_seen c.in-Some.name))) in
     described c.set_in-in-Some.result
-    (and_after (λ k. designator_in k (designator_view c.in-Some.name)) (λ o k. and_then (set_type_of k (designator_at (designator_view c.in-Some.name)) o) (λ t. elements_in k (set_base k t) (no_elements k t) (labels (map label_view c.in-Set.items.items)))) c.set_in-in-Some.result (rw c.in-Known.is at c.in-Ok.ensures)
-    (and_after (λ k. set_type_of k (designator_at (designator_view c.in-Some.name)) c.in-Known.value) (λ t k. elements_in k (set_base k t) (no_elements k t) (labels (map label_view c.in-Set.items.items))) c.set_in-in-Some.result (rw (c.in-Ok-note_type.is, c.in-Known-asked.is) at noted) (rw c.deref-in-Some.ensures.value at c.set_in-in-Some.ensures)))
+    (and_after (λ k. designator_in k (designator_view c.in-Some.name)) (λ o k. and_then (set_type_of k (designator_at (designator_view c.in-Some.name)) o) (λ t. elements_in k (set_base k t) (no_elements k t) (labels (map label_view c.in-Set.items.items)))) c.set_in-in-Some.result (found c.in-Known.is c.in-Ok.ensures)
+    (and_after (λ k. set_type_of k (designator_at (designator_view c.in-Some.name)) c.in-Known.value) (λ t k. elements_in k (set_base k t) (no_elements k t) (labels (map label_view c.in-Set.items.items))) c.set_in-in-Some.result (found c.in-Known-asked.is (turned c.in-Ok-note_type.is noted)) (rw c.deref-in-Some.ensures.value at c.set_in-in-Some.ensures)))
     (λ k. form_given k c.args.e.now (Set (Some c.in-Some.name) c.in-Set.items) _ (c.in-Set.is ∙ ap (λ o. Set o c.in-Set.items) c.in-Some.is) (typed_set_seen c.in-Some.name c.in-Set.items))
 
 pub operand_in-designator_in-requires-in-Name : goal.operand_in-designator_in-requires-in-Name
@@ -333,7 +334,7 @@ operand_in-designator_in-requires-in-Call g t c κs within =
 
 pub operand_in-returns-in-DontKnowYet-asked-2 : goal.operand_in-returns-in-DontKnowYet-asked-2
 operand_in-returns-in-DontKnowYet-asked-2 g t c =
-    waiting (rw c.in-DontKnowYet-asked-2.is at c.in-Ok-designator_in.ensures)
+    waiting (found c.in-DontKnowYet-asked-2.is c.in-Ok-designator_in.ensures)
 
 pub operand_in-returns-in-Err-designator_in : goal.operand_in-returns-in-Err-designator_in
 operand_in-returns-in-Err-designator_in g t c =
@@ -341,11 +342,11 @@ operand_in-returns-in-Err-designator_in g t c =
 
 pub operand_in-called_in-requires : goal.operand_in-called_in-requires
 operand_in-called_in-requires g t c κs within =
-    ((let small = arguments_smaller c.args.e.now c.in-Call.to c.in-Call.args c.in-Call.is in let same = ap (most size-Expr) c.deref-in-Call.ensures.value in omega (arith, small, same, c.decreases)), (within, ((stays_after (λ (f : Frame). SuitsSite f c.args.site.now) (rw c.in-Known-asked-2.is at c.in-Ok-designator_in.ensures) c.requires.suits), (stands_after (rw c.in-Known-asked-2.is at c.in-Ok-designator_in.ensures), (rw c.deref-in-Call.ensures.value (form_read c.args.site.now.texts.now.names c.args.e.now _ _ c.in-Call.is (call_seen c.in-Call.to c.in-Call.args) c.requires.read).1)))))
+    ((let small = arguments_smaller c.args.e.now c.in-Call.to c.in-Call.args c.in-Call.is in let same = ap (most size-Expr) c.deref-in-Call.ensures.value in omega (arith, small, same, c.decreases)), (within, ((stays_after (λ (f : Frame). SuitsSite f c.args.site.now) (found c.in-Known-asked-2.is c.in-Ok-designator_in.ensures) c.requires.suits), (stands_after (found c.in-Known-asked-2.is c.in-Ok-designator_in.ensures), (rw c.deref-in-Call.ensures.value (form_read c.args.site.now.texts.now.names c.args.e.now _ _ c.in-Call.is (call_seen c.in-Call.to c.in-Call.args) c.requires.read).1)))))
 
 pub operand_in-returns-in-Known-asked-2 : goal.operand_in-returns-in-Known-asked-2
 operand_in-returns-in-Known-asked-2 g t c =
-    described c.called_in.result (and_after (λ k. designator_in k (designator_view c.in-Call.to)) (λ o k. called_in k c.in-Call.to.first.at o (exprs (map expr_view c.in-Call.args.items))) c.called_in.result (rw c.in-Known-asked-2.is at c.in-Ok-designator_in.ensures) (rw c.deref-in-Call.ensures.value at c.called_in.ensures))
+    described c.called_in.result (and_after (λ k. designator_in k (designator_view c.in-Call.to)) (λ o k. called_in k c.in-Call.to.first.at o (exprs (map expr_view c.in-Call.args.items))) c.called_in.result (found c.in-Known-asked-2.is c.in-Ok-designator_in.ensures) (rw c.deref-in-Call.ensures.value at c.called_in.ensures))
     (λ k. ap (λ (at : ℕ). and_then (designator_in k (designator_view c.in-Call.to)) (λ o. called_in k at o (exprs (map expr_view c.in-Call.args.items)))) (sym (designator_at_seen c.in-Call.to)) ∙ form_given k c.args.e.now _ _ c.in-Call.is (call_seen c.in-Call.to c.in-Call.args))
 
 pub operand_in-value_in-requires : goal.operand_in-value_in-requires
@@ -354,7 +355,7 @@ operand_in-value_in-requires g t c κs within =
 
 pub operand_in-returns-in-DontKnowYet-asked-3 : goal.operand_in-returns-in-DontKnowYet-asked-3
 operand_in-returns-in-DontKnowYet-asked-3 g t c =
-    waiting (rw c.in-DontKnowYet-asked-3.is at c.in-Ok-value_in.ensures)
+    waiting (found c.in-DontKnowYet-asked-3.is c.in-Ok-value_in.ensures)
 
 pub operand_in-returns-in-Err-value_in : goal.operand_in-returns-in-Err-value_in
 operand_in-returns-in-Err-value_in g t c =
@@ -362,15 +363,15 @@ operand_in-returns-in-Err-value_in g t c =
 
 pub operand_in-applied_one-requires-clause-suits : goal.operand_in-applied_one-requires-clause-suits
 operand_in-applied_one-requires-clause-suits g t c =
-    stays_after (λ (f : Frame). SuitsSite f c.args.site.now) (rw c.in-Known-asked-3.is at c.in-Ok-value_in.ensures) c.requires.suits
+    stays_after (λ (f : Frame). SuitsSite f c.args.site.now) (found c.in-Known-asked-3.is c.in-Ok-value_in.ensures) c.requires.suits
 
 pub operand_in-applied_one-requires-clause-operand : goal.operand_in-applied_one-requires-clause-operand
 operand_in-applied_one-requires-clause-operand g t c =
-    stands_after (rw c.in-Known-asked-3.is at c.in-Ok-value_in.ensures)
+    stands_after (found c.in-Known-asked-3.is c.in-Ok-value_in.ensures)
 
 pub operand_in-returns-in-Known-asked-3 : goal.operand_in-returns-in-Known-asked-3
 operand_in-returns-in-Known-asked-3 g t c =
-    described c.applied_one.result (and_after (λ k. value_in k (expr_view c.in-One.of.value)) (λ x k. apply_one k c.in-One.op c.in-One.op_at x) c.applied_one.result (rw c.deref-in-One.ensures at (rw c.in-Known-asked-3.is at c.in-Ok-value_in.ensures)) c.applied_one.ensures)
+    described c.applied_one.result (and_after (λ k. value_in k (expr_view c.in-One.of.value)) (λ x k. apply_one k c.in-One.op c.in-One.op_at x) c.applied_one.result (rw c.deref-in-One.ensures at (found c.in-Known-asked-3.is c.in-Ok-value_in.ensures)) c.applied_one.ensures)
     (λ k. one_given k c.args.e.now.at c.in-One.op c.in-One.op_at (expr_view c.in-One.of.value) ∙ form_given k c.args.e.now _ _ c.in-One.is (one_seen c.in-One.op c.in-One.op_at c.in-One.of))
 
 pub operand_in-value_in-requires-in-Many : goal.operand_in-value_in-requires-in-Many
@@ -379,7 +380,7 @@ operand_in-value_in-requires-in-Many g t c κs within =
 
 pub operand_in-returns-in-DontKnowYet-asked-4 : goal.operand_in-returns-in-DontKnowYet-asked-4
 operand_in-returns-in-DontKnowYet-asked-4 g t c =
-    waiting (rw c.in-DontKnowYet-asked-4.is at c.in-Ok-value_in-2.ensures)
+    waiting (found c.in-DontKnowYet-asked-4.is c.in-Ok-value_in-2.ensures)
 
 pub operand_in-returns-in-Err-value_in-2 : goal.operand_in-returns-in-Err-value_in-2
 operand_in-returns-in-Err-value_in-2 g t c =
@@ -387,11 +388,11 @@ operand_in-returns-in-Err-value_in-2 g t c =
 
 pub operand_in-nexts_in-requires : goal.operand_in-nexts_in-requires
 operand_in-nexts_in-requires g t c κs within =
-    ((let small = nexts_smaller c.args.e.now c.in-Many.first c.in-Many.rest c.in-Many.is in let same = ap (most size-Next) c.deref-in-Many-2.ensures.value in omega (arith, small, same, c.decreases)), (within, ((stays_after (λ (f : Frame). SuitsSite f c.args.site.now) (rw c.in-Known-asked-4.is at c.in-Ok-value_in-2.ensures) c.requires.suits), (stands_after (rw c.in-Known-asked-4.is at c.in-Ok-value_in-2.ensures), (rw c.deref-in-Many-2.ensures.value (form_read c.args.site.now.texts.now.names c.args.e.now _ _ c.in-Many.is (many_seen c.in-Many.first c.in-Many.rest) c.requires.read).1)))))
+    ((let small = nexts_smaller c.args.e.now c.in-Many.first c.in-Many.rest c.in-Many.is in let same = ap (most size-Next) c.deref-in-Many-2.ensures.value in omega (arith, small, same, c.decreases)), (within, ((stays_after (λ (f : Frame). SuitsSite f c.args.site.now) (found c.in-Known-asked-4.is c.in-Ok-value_in-2.ensures) c.requires.suits), (stands_after (found c.in-Known-asked-4.is c.in-Ok-value_in-2.ensures), (rw c.deref-in-Many-2.ensures.value (form_read c.args.site.now.texts.now.names c.args.e.now _ _ c.in-Many.is (many_seen c.in-Many.first c.in-Many.rest) c.requires.read).1)))))
 
 pub operand_in-returns-in-Known-asked-4 : goal.operand_in-returns-in-Known-asked-4
 operand_in-returns-in-Known-asked-4 g t c =
-    described c.nexts_in.result (and_after (λ k. value_in k (expr_view c.in-Many.first.value)) (λ x k. many_in k c.args.e.now.at x (nexts (map next_view c.in-Many.rest.items))) c.nexts_in.result (rw c.deref-in-Many.ensures at (rw c.in-Known-asked-4.is at c.in-Ok-value_in-2.ensures)) (rw c.deref-in-Many-2.ensures.value at c.nexts_in.ensures))
+    described c.nexts_in.result (and_after (λ k. value_in k (expr_view c.in-Many.first.value)) (λ x k. many_in k c.args.e.now.at x (nexts (map next_view c.in-Many.rest.items))) c.nexts_in.result (rw c.deref-in-Many.ensures at (found c.in-Known-asked-4.is c.in-Ok-value_in-2.ensures)) (rw c.deref-in-Many-2.ensures.value at c.nexts_in.ensures))
     (λ k. many_given k c.args.e.now.at (expr_view c.in-Many.first.value) (nexts (map next_view c.in-Many.rest.items)) ∙ form_given k c.args.e.now _ _ c.in-Many.is (many_seen c.in-Many.first c.in-Many.rest))
 
 pub nexts_in-value_in-requires : goal.nexts_in-value_in-requires
@@ -400,19 +401,19 @@ nexts_in-value_in-requires g t c κs within =
 
 pub nexts_in-operated-requires-clause-suits : goal.nexts_in-operated-requires-clause-suits
 nexts_in-operated-requires-clause-suits g t c =
-    stays_after (λ (f : Frame). SuitsSite f c.args.site.now) (rw c.in-Known.is at c.in-Ok.ensures) (stays_after (λ (f : Frame). SuitsSite f c.args.site.now) c.loop-next.invariant c.requires.suits)
+    stays_after (λ (f : Frame). SuitsSite f c.args.site.now) (found c.in-Known.is c.in-Ok.ensures) (stays_after (λ (f : Frame). SuitsSite f c.args.site.now) c.loop-next.invariant c.requires.suits)
 
 pub nexts_in-operated-requires-clause-x : goal.nexts_in-operated-requires-clause-x
 nexts_in-operated-requires-clause-x g t c =
-    stays_after (λ (f : Frame). IsOperand f c.loop-next.operand) (rw c.in-Known.is at c.in-Ok.ensures) (stands_after c.loop-next.invariant)
+    stays_after (λ (f : Frame). IsOperand f c.loop-next.operand) (found c.in-Known.is c.in-Ok.ensures) (stands_after c.loop-next.invariant)
 
 pub nexts_in-operated-requires-clause-y : goal.nexts_in-operated-requires-clause-y
 nexts_in-operated-requires-clause-y g t c =
-    stands_after (rw c.in-Known.is at c.in-Ok.ensures)
+    stands_after (found c.in-Known.is c.in-Ok.ensures)
 
 pub nexts_in-returns-in-DontKnowYet : goal.nexts_in-returns-in-DontKnowYet
 nexts_in-returns-in-DontKnowYet g t c =
-    waiting_after c.loop-next.invariant (rw c.in-DontKnowYet.is at c.in-Ok.ensures)
+    waiting_after c.loop-next.invariant (found c.in-DontKnowYet.is c.in-Ok.ensures)
 
 pub nexts_in-returns-in-Err : goal.nexts_in-returns-in-Err
 nexts_in-returns-in-Err g t c =
@@ -420,16 +421,16 @@ nexts_in-returns-in-Err g t c =
 
 pub nexts_in-returns-in-DontKnowYet-asked : goal.nexts_in-returns-in-DontKnowYet-asked
 nexts_in-returns-in-DontKnowYet-asked g t c =
-    waiting_third c.loop-next.invariant (rw c.in-Known.is at c.in-Ok.ensures) (rw c.in-DontKnowYet-asked.is at c.in-Ok-operated.ensures)
+    waiting_third c.loop-next.invariant (found c.in-Known.is c.in-Ok.ensures) (found c.in-DontKnowYet-asked.is c.in-Ok-operated.ensures)
 
 pub nexts_in-returns-in-Err-operated : goal.nexts_in-returns-in-Err-operated
 nexts_in-returns-in-Err-operated g t c =
-    failed_third c.loop-next.invariant (rw c.in-Known.is at c.in-Ok.ensures) c.in-Err-operated.ensures _
+    failed_third c.loop-next.invariant (found c.in-Known.is c.in-Ok.ensures) c.in-Err-operated.ensures _
 
 pub nexts_in-loop-next-preserved : goal.nexts_in-loop-next-preserved
 nexts_in-loop-next-preserved g t c =
     one_more (λ k o i. next_in k c.args.first.at o (next_view i)) c.args.first.operand c.args.rest.now c.loop-next.next-index c.next-item.result c.loop-next-test.true c.next-item.is c.loop-next.invariant
-    (described (Ok (Known c.in-Known-asked.value)) (and_after (λ k. value_in k (expr_view c.next-item.result.right)) (λ y k. operate k c.next-item.result.op c.next-item.result.op_at c.loop-next.operand c.args.first.at y c.next-item.result.right.at) (Ok (Known c.in-Known-asked.value)) (rw c.in-Known.is at c.in-Ok.ensures) (rw c.in-Known-asked.is at c.in-Ok-operated.ensures))
+    (described (Ok (Known c.in-Known-asked.value)) (and_after (λ k. value_in k (expr_view c.next-item.result.right)) (λ y k. operate k c.next-item.result.op c.next-item.result.op_at c.loop-next.operand c.args.first.at y c.next-item.result.right.at) (Ok (Known c.in-Known-asked.value)) (found c.in-Known.is c.in-Ok.ensures) (found c.in-Known-asked.is c.in-Ok-operated.ensures))
     (λ k. ap (λ (at : ℕ). and_then (value_in k (expr_view c.next-item.result.right)) (λ y. operate k c.next-item.result.op c.next-item.result.op_at c.loop-next.operand c.args.first.at y at)) (sym (at_seen c.next-item.result.right))
     ∙ next_given k c.args.first.at c.loop-next.operand c.next-item.result.op c.next-item.result.op_at (expr_view c.next-item.result.right) ∙ ap (next_in k c.args.first.at c.loop-next.operand) (sym (next_seen c.next-item.result))))
 
@@ -439,7 +440,7 @@ indices_in-value_in-requires g t c κs within =
 
 pub indices_in-returns-in-DontKnowYet : goal.indices_in-returns-in-DontKnowYet
 indices_in-returns-in-DontKnowYet g t c =
-    waiting_after c.loop-e.invariant (rw c.in-DontKnowYet.is at c.in-Ok.ensures)
+    waiting_after c.loop-e.invariant (found c.in-DontKnowYet.is c.in-Ok.ensures)
 
 pub indices_in-returns-in-Err : goal.indices_in-returns-in-Err
 indices_in-returns-in-Err g t c =
@@ -447,19 +448,19 @@ indices_in-returns-in-Err g t c =
 
 pub indices_in-returns-in-DontKnowYet-asked : goal.indices_in-returns-in-DontKnowYet-asked
 indices_in-returns-in-DontKnowYet-asked g t c =
-    waiting_third c.loop-e.invariant (rw c.in-Known.is at c.in-Ok.ensures) (rw c.in-DontKnowYet-asked.is at c.in-Ok-picked.ensures (g.S.Scopes.state c.value_in.new.scopes))
+    waiting_third c.loop-e.invariant (found c.in-Known.is c.in-Ok.ensures) (found c.in-DontKnowYet-asked.is (c.in-Ok-picked.ensures (g.S.Scopes.state c.value_in.new.scopes)))
 
 pub indices_in-returns-in-Err-picked : goal.indices_in-returns-in-Err-picked
 indices_in-returns-in-Err-picked g t c =
-    failed_third c.loop-e.invariant (rw c.in-Known.is at c.in-Ok.ensures) (c.in-Err-picked.ensures (g.S.Scopes.state c.value_in.new.scopes)) _
+    failed_third c.loop-e.invariant (found c.in-Known.is c.in-Ok.ensures) (c.in-Err-picked.ensures (g.S.Scopes.state c.value_in.new.scopes)) _
 
 pub indices_in-loop-e-preserved : goal.indices_in-loop-e-preserved
 indices_in-loop-e-preserved g t c =
-    let two = (rw c.in-Known-asked.is at c.in-Ok-picked.ensures (g.S.Scopes.state c.value_in.new.scopes)) in
+    let two = (found c.in-Known-asked.is (c.in-Ok-picked.ensures (g.S.Scopes.state c.value_in.new.scopes))) in
     let made = value_everywhere (g.S.Scopes.state c.value_in.new.scopes) c.picked.new.notes c.args.site.now c.spoilt_by-operand.result IsOperand (λ k. gives (spoilt_by c.in-Known.value c.in-Known-asked.value))
     (c.spoilt_by-operand.ensures.there (g.S.Scopes.state c.value_in.new.scopes).frame two.there) (λ k. ap (λ o. gives o) c.spoilt_by-operand.ensures.told) in
     one_more (λ k o i. index_in k c.args.of.at o (expr_view i)) c.args.of.operand c.args.es.now c.loop-e.e-index c.e-item.result c.loop-e-test.true c.e-item.is c.loop-e.invariant
-    (and_after (λ k. value_in k (expr_view c.e-item.result)) (λ v k. with_index k c.args.of.at c.loop-e.operand v) (Ok (Known c.spoilt_by-operand.result)) (rw c.in-Known.is at c.in-Ok.ensures)
+    (and_after (λ k. value_in k (expr_view c.e-item.result)) (λ v k. with_index k c.args.of.at c.loop-e.operand v) (Ok (Known c.spoilt_by-operand.result)) (found c.in-Known.is c.in-Ok.ensures)
     (and_after (λ k. selected k c.args.of.at c.loop-e.operand) (λ p k. gives (spoilt_by c.in-Known.value p)) (Ok (Known c.spoilt_by-operand.result)) two made))
 
 pub called_in-loop-e-init : goal.called_in-loop-e-init
@@ -472,7 +473,7 @@ called_in-operand_in-requires g t c κs within =
 
 pub called_in-loop-e-preserved : goal.called_in-loop-e-preserved
 called_in-loop-e-preserved g t c =
-    let one = (rw c.in-Known.is at c.in-Ok.ensures) in
+    let one = (found c.in-Known.is c.in-Ok.ensures) in
     let made = value_everywhere (g.S.Scopes.state c.operand_in.new.scopes) c.operand_in.new.notes c.args.site.now c.with-args.result AreArguments (λ k. gives (with_more c.loop-e.args (record { at = expr_at (expr_view c.e-item.result); operand = c.in-Known.value })))
     (c.with-args.ensures.there (g.S.Scopes.state c.operand_in.new.scopes).frame (stays_after (λ (f : Frame). AreArguments f c.loop-e.args) one (stands_after c.loop-e.invariant)) (stands_after one))
     (λ k. ap (λ args. gives args) (c.with-args.ensures.added ∙ ap (λ (at : ℕ). with_more c.loop-e.args (record { at = at; operand = c.in-Known.value })) (sym (at_seen c.e-item.result)))) in
@@ -481,7 +482,7 @@ called_in-loop-e-preserved g t c =
 
 pub called_in-returns-in-DontKnowYet : goal.called_in-returns-in-DontKnowYet
 called_in-returns-in-DontKnowYet g t c =
-    waiting_after c.loop-e.invariant (rw c.in-DontKnowYet.is at c.in-Ok.ensures)
+    waiting_after c.loop-e.invariant (found c.in-DontKnowYet.is c.in-Ok.ensures)
 
 pub called_in-returns-in-Err : goal.called_in-returns-in-Err
 called_in-returns-in-Err g t c =
@@ -503,7 +504,7 @@ called_in-returns g t c =
 
 pub designator_in-loop-selector-init : goal.designator_in-loop-selector-init
 designator_in-loop-selector-init g t c =
-    described (Ok (Known c.in-Known.value)) (rw c.in-Known.is at c.in-Ok.ensures) (λ k. sym (and_then_gives (name_operand k None c.args.of.now.first)))
+    described (Ok (Known c.in-Known.value)) (found c.in-Known.is c.in-Ok.ensures) (λ k. sym (and_then_gives (name_operand k None c.args.of.now.first)))
 
 pub designator_in-selector_in-requires : goal.designator_in-selector_in-requires
 designator_in-selector_in-requires g t c κs within =
@@ -511,11 +512,11 @@ designator_in-selector_in-requires g t c κs within =
 
 pub designator_in-loop-selector-preserved : goal.designator_in-loop-selector-preserved
 designator_in-loop-selector-preserved g t c =
-    one_more_after (λ k. name_operand k None c.args.of.now.first) (λ k o i. selector_in k c.args.of.now.first.at o (selector_view i)) c.args.of.now.rest.items c.loop-selector.selector-index c.selector-item.result (rw c.deref-selector-items.ensures.value at c.loop-selector-test.true) (rw c.deref-selector-items.ensures.value at c.selector-item.is) c.loop-selector.invariant (rw c.in-Known-asked.is at c.in-Ok-selector_in.ensures)
+    one_more_after (λ k. name_operand k None c.args.of.now.first) (λ k o i. selector_in k c.args.of.now.first.at o (selector_view i)) c.args.of.now.rest.items c.loop-selector.selector-index c.selector-item.result (rw c.deref-selector-items.ensures.value at c.loop-selector-test.true) (rw c.deref-selector-items.ensures.value at c.selector-item.is) c.loop-selector.invariant (found c.in-Known-asked.is c.in-Ok-selector_in.ensures)
 
 pub designator_in-returns-in-DontKnowYet-asked : goal.designator_in-returns-in-DontKnowYet-asked
 designator_in-returns-in-DontKnowYet-asked g t c =
-    waiting_after c.loop-selector.invariant (rw c.in-DontKnowYet-asked.is at c.in-Ok-selector_in.ensures)
+    waiting_after c.loop-selector.invariant (found c.in-DontKnowYet-asked.is c.in-Ok-selector_in.ensures)
 
 pub designator_in-returns-in-Err-selector_in : goal.designator_in-returns-in-Err-selector_in
 designator_in-returns-in-Err-selector_in g t c =

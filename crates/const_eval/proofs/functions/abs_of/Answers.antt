@@ -11,7 +11,7 @@ use Rattle.type_rules.proofs.Later.{Suits_read}
 use Rattle.type_rules.proofs.Reading.{Reads-trans, Waits_read}
 use Rattle.const_eval.proofs.Judging.{after_ok, told_first}
 use Rattle.const_eval.proofs.Later.{IsOperand_read}
-use Rattle.const_eval.proofs.TypesThere.{small_constant, type_there}
+use Rattle.const_eval.proofs.TypesThere.{small_constant, type_there, number_there}
 use Rattle.const_eval.proofs.functions.abs_of.Goals as goal
 
 pub base_of-requires-clause-suits : goal.base_of-requires-clause-suits
@@ -81,3 +81,6 @@ number_kind-requires g c = tt
 
 pub number_type-requires : goal.number_type-requires
 number_type-requires g c = tt
+
+pub returns-clause-there : goal.returns-clause-there
+returns-clause-there g c = c.absolute.ensures.there (g.S.Scopes.state c.args.scopes.now).frame (subst (λ (t : Place). IsThere (g.S.Scopes.state c.args.scopes.now).frame t) (sym c.number_type.ensures) (number_there c.requires.suits.around c.number_kind.result))

@@ -1,10 +1,13 @@
-use Rattle.std.proofs.Common.{◌∙◌, sym, ap, refl, if◌then◌else◌}
+use Rattle.std.proofs.Common.{◌∙◌, sym, ap, refl, if◌then◌else◌, subst}
 use Rattle.m2_base.specs.Gives.{gives}
 use Rattle.m2_base.specs.Statics.Functions.{capital, wrong_at}
 use Rattle.m2_base.specs.Statics.Types.{base_of}
 use Rattle.type_rules.specs.Sites.{context_of}
 use Rattle.type_rules.proofs.Reading.{Reads-refl}
 use Rattle.const_eval.proofs.FunctionArguments.{cap_bad, cap_by}
+use Rattle.m2_base.specs.declared.rows.Place.{Place}
+use Rattle.type_rules.specs.Scenes.{IsThere}
+use Rattle.const_eval.proofs.TypesThere.{operand_named, standard_there, type_there}
 use Rattle.const_eval.proofs.functions.cap_of.Goals as goal
 
 pub returns-then-eq-clause-told : goal.returns-then-eq-clause-told
@@ -67,3 +70,12 @@ returns-then-eq-clause-waits g c = tt
 
 pub capital-requires : goal.capital-requires
 capital-requires g c = tt
+
+pub base_of-requires-clause-there : goal.base_of-requires-clause-there
+base_of-requires-clause-there g c = subst (λ (t : Place). IsThere (g.S.Scopes.state c.args.scopes.now).frame t) (sym c.operand_type.ensures) (type_there c.requires.suits.around c.char_of_string-taken.result (c.char_of_string-taken.ensures.there (g.S.Scopes.state c.args.scopes.now).frame (standard_there c.requires.suits.around 2) c.requires.x))
+
+pub char_of_string-taken-requires : goal.char_of_string-taken-requires
+char_of_string-taken-requires g c = operand_named c.requires.suits c.args.x c.requires.x
+
+pub returns-then-eq-clause-there : goal.returns-then-eq-clause-there
+returns-then-eq-clause-there g c = c.capital.ensures.there (g.S.Scopes.state c.args.scopes.now).frame (c.char_of_string-taken.ensures.there (g.S.Scopes.state c.args.scopes.now).frame (standard_there c.requires.suits.around 2) c.requires.x) (standard_there c.requires.suits.around 2)

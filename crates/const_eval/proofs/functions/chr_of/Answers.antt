@@ -3,10 +3,11 @@ use Rattle.m2_base.specs.Gives.{and_then}
 use Rattle.m2_base.specs.Standard.{character}
 use Rattle.m2_base.specs.Statics.Functions.{converted}
 use Rattle.type_rules.specs.Sites.{context_of}
-use Rattle.type_rules.proofs.Later.{Waits_asked}
+use Rattle.type_rules.proofs.Later.{Waits_asked, IsThere_read}
 use Rattle.type_rules.proofs.Reading.{Reads-trans}
 use Rattle.const_eval.proofs.Judging.{after_ok, judged_as}
-use Rattle.const_eval.proofs.Later.{IsOperand_given, SuitsSite_read}
+use Rattle.const_eval.proofs.Later.{IsOperand_given, SuitsSite_read, IsOperand_read}
+use Rattle.const_eval.proofs.TypesThere.{standard_there}
 use Rattle.const_eval.proofs.functions.chr_of.Goals as goal
 
 pub converted-requires-clause-suits : goal.converted-requires-clause-suits
@@ -33,3 +34,30 @@ pub returns-in-Err-clause-told : goal.returns-in-Err-clause-told
 returns-in-Err-clause-told g c made in_hand told =
     let now = context_of (g.S.Scopes.state c.args.scopes.now).frame made c.args.site.now in
     ap (λ t. and_then t (λ v. converted now c.args.at character v)) ((rw c.in-Err.is at c.in-Known.ensures.told) made in_hand told)
+
+pub converted-requires-clause-of : goal.converted-requires-clause-of
+converted-requires-clause-of g c = IsThere_read c.in-Known.ensures.reads (standard_there c.requires.suits.around 2)
+
+pub converted-requires-clause-x : goal.converted-requires-clause-x
+converted-requires-clause-x g c = IsOperand_read c.in-Ok.x c.in-Known.ensures.reads (rw c.in-Ok.is at c.in-Known.ensures.there)
+
+pub number_argument-requires : goal.number_argument-requires
+number_argument-requires g c = record { suits = c.requires.suits; x = c.requires.x }
+
+pub returns-in-DontKnowYet : goal.returns-in-DontKnowYet
+returns-in-DontKnowYet g c =
+    record {
+      reads = c.in-DontKnowYet.ensures.reads;
+      waits = c.in-DontKnowYet.ensures.waits;
+      told = λ made in_hand told. tt;
+      there = tt;
+    }
+
+pub returns-in-Err-clause-reads : goal.returns-in-Err-clause-reads
+returns-in-Err-clause-reads g c = c.in-Known.ensures.reads
+
+pub returns-in-Err-clause-there : goal.returns-in-Err-clause-there
+returns-in-Err-clause-there g c = tt
+
+pub returns-in-Err-clause-waits : goal.returns-in-Err-clause-waits
+returns-in-Err-clause-waits g c = tt

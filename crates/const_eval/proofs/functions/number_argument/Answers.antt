@@ -1,9 +1,12 @@
-use Rattle.std.proofs.Common.{◌∙◌, false, true, sym, ap}
+use Rattle.std.proofs.Common.{◌∙◌, false, true, sym, ap, subst}
 use Rattle.m2_base.specs.Statics.Compatible.{is_number_type}
 use Rattle.m2_base.specs.Statics.Types.{base_of}
 use Rattle.type_rules.specs.Sites.{context_of}
 use Rattle.type_rules.proofs.Reading.{Reads-refl}
 use Rattle.const_eval.proofs.FunctionArguments.{number_bad, number_by}
+use Rattle.m2_base.specs.declared.rows.Place.{Place}
+use Rattle.type_rules.specs.Scenes.{IsThere}
+use Rattle.const_eval.proofs.TypesThere.{type_there}
 use Rattle.const_eval.proofs.functions.number_argument.Goals as goal
 
 pub base_of-requires-clause-suits : goal.base_of-requires-clause-suits
@@ -57,3 +60,6 @@ returns-then-is_number g c =
           (sym c.if-is_number.true ∙ c.is_number.ensures ∙ ap is_number_type (c.in-Known.ensures.told made in_hand told ∙ ap (base_of now.scene) c.operand_type.ensures)));
       there = c.requires.x;
     }
+
+pub base_of-requires-clause-there : goal.base_of-requires-clause-there
+base_of-requires-clause-there g c = subst (λ (t : Place). IsThere (g.S.Scopes.state c.args.scopes.now).frame t) (sym c.operand_type.ensures) (type_there c.requires.suits.around c.args.x c.requires.x)

@@ -3,10 +3,11 @@ use Rattle.m2_base.specs.Gives.{and_then}
 use Rattle.m2_base.specs.Standard.{cardinal}
 use Rattle.m2_base.specs.Statics.Functions.{converted}
 use Rattle.type_rules.specs.Sites.{context_of}
-use Rattle.type_rules.proofs.Later.{Waits_asked}
+use Rattle.type_rules.proofs.Later.{Waits_asked, IsThere_read}
 use Rattle.type_rules.proofs.Reading.{Reads-trans}
 use Rattle.const_eval.proofs.Judging.{after_ok, judged_as}
-use Rattle.const_eval.proofs.Later.{IsOperand_given, SuitsSite_read}
+use Rattle.const_eval.proofs.Later.{IsOperand_given, SuitsSite_read, IsOperand_read}
+use Rattle.const_eval.proofs.TypesThere.{standard_there}
 use Rattle.const_eval.proofs.functions.ord_of.Goals as goal
 
 pub converted-requires-clause-suits : goal.converted-requires-clause-suits
@@ -50,3 +51,9 @@ returns-in-Err g c =
           ap (λ t. and_then t (λ v. converted now c.args.at cardinal v)) ((rw c.in-Err.is at c.in-Known.ensures.told) made in_hand told));
       there = tt;
     }
+
+pub converted-requires-clause-of : goal.converted-requires-clause-of
+converted-requires-clause-of g c = IsThere_read c.in-Known.ensures.reads (standard_there c.requires.suits.around 1)
+
+pub converted-requires-clause-x : goal.converted-requires-clause-x
+converted-requires-clause-x g c = IsOperand_read c.in-Ok.x c.in-Known.ensures.reads (rw c.in-Ok.is at c.in-Known.ensures.there)

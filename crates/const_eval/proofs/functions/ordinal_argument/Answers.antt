@@ -2,7 +2,7 @@ use Rattle.std.proofs.Common.{◌∙◌, false, true, sym, refl}
 use Rattle.type_rules.specs.Sites.{context_of}
 use Rattle.type_rules.proofs.Reading.{Reads-refl}
 use Rattle.const_eval.proofs.FunctionArguments.{ordinal_bad, ordinal_by}
-use Rattle.const_eval.proofs.TypesThere.{standard_there}
+use Rattle.const_eval.proofs.TypesThere.{standard_there, operand_named}
 use Rattle.const_eval.proofs.functions.ordinal_argument.Goals as goal
 
 pub is_bad-requires : goal.is_bad-requires
@@ -50,3 +50,9 @@ returns-else-value g c =
           (c.char_of_string-taken.ensures.told now.source refl) (sym c.if-value.false ∙ c.in-Known.ensures.told made in_hand told));
       there = tt;
     }
+
+pub char_of_string-taken-requires : goal.char_of_string-taken-requires
+char_of_string-taken-requires g c = operand_named c.requires.suits c.args.x c.requires.x
+
+pub is_ordinal-requires-clause-x : goal.is_ordinal-requires-clause-x
+is_ordinal-requires-clause-x g c = c.char_of_string-taken.ensures.there (g.S.Scopes.state c.args.scopes.now).frame (standard_there c.requires.suits.around 2) c.requires.x

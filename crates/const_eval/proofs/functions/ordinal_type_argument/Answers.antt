@@ -14,6 +14,7 @@ use Rattle.type_rules.proofs.Reading.{Reads-trans, Waits_read, Reads-refl}
 use Rattle.const_eval.proofs.FunctionArguments.{type_by_range}
 use Rattle.const_eval.proofs.Judging.{told_first}
 use Rattle.const_eval.proofs.TypeArguments.{broken_passes, no_type, type_refused}
+use Rattle.const_eval.proofs.TypesThere.{standard_there}
 use Rattle.const_eval.proofs.functions.ordinal_type_argument.Goals as goal
 
 pub returns-in-InError-clause-told : goal.returns-in-InError-clause-told
@@ -119,3 +120,12 @@ returns-then-value-clause-reads g c = c.in-Known.ensures.reads
 
 pub returns-then-value-clause-waits : goal.returns-then-value-clause-waits
 returns-then-value-clause-waits g c = tt
+
+pub returns-in-InError-clause-there : goal.returns-in-InError-clause-there
+returns-in-InError-clause-there g c = standard_there c.requires.suits.around 10
+
+pub returns-in-None-clause-there : goal.returns-in-None-clause-there
+returns-in-None-clause-there g c = tt
+
+pub returns-in_default-clause-there : goal.returns-in_default-clause-there
+returns-in_default-clause-there g c = tt

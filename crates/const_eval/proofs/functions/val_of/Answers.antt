@@ -71,3 +71,36 @@ returns-in-Err-clause-told g c made in_hand told =
     let now = context_of (g.S.Scopes.state c.args.scopes.now).frame made c.args.site.now in
     val_refused now c.in-Err.fault c.args.at c.args.of
     ∙ ap (λ t. and_then t (λ v. val_as now c.args.at c.args.of v)) ((rw c.in-Err.is at c.in-Known.ensures.told) made in_hand told)
+
+pub ordinal_argument-requires : goal.ordinal_argument-requires
+ordinal_argument-requires g c = record { suits = c.requires.suits; x = c.requires.x }
+
+pub returns-in-DontKnowYet : goal.returns-in-DontKnowYet
+returns-in-DontKnowYet g c =
+    record {
+      reads = c.in-DontKnowYet.ensures.reads;
+      waits = c.in-DontKnowYet.ensures.waits;
+      told = λ made in_hand told. tt;
+      there = tt;
+    }
+
+pub returns-in-DontKnowYet-is_broken-clause-told : goal.returns-in-DontKnowYet-is_broken-clause-told
+returns-in-DontKnowYet-is_broken-clause-told g c made in_hand told = tt
+
+pub returns-in-DontKnowYet-is_broken-clause-there : goal.returns-in-DontKnowYet-is_broken-clause-there
+returns-in-DontKnowYet-is_broken-clause-there g c = tt
+
+pub returns-then-value-clause-there : goal.returns-then-value-clause-there
+returns-then-value-clause-there g c = tt
+
+pub returns-then-value-clause-waits : goal.returns-then-value-clause-waits
+returns-then-value-clause-waits g c = tt
+
+pub returns-in-Err-clause-reads : goal.returns-in-Err-clause-reads
+returns-in-Err-clause-reads g c = c.in-Known.ensures.reads
+
+pub returns-in-Err-clause-there : goal.returns-in-Err-clause-there
+returns-in-Err-clause-there g c = tt
+
+pub returns-in-Err-clause-waits : goal.returns-in-Err-clause-waits
+returns-in-Err-clause-waits g c = tt

@@ -215,3 +215,9 @@ eq-requires g c = tt
 
 pub member_of_set-requires : goal.member_of_set-requires
 member_of_set-requires g c = tt
+
+pub base_by-whole-requires : goal.base_by-whole-requires
+base_by-whole-requires g c = tt
+
+pub operand_type-requires : goal.operand_type-requires
+operand_type-requires g c = tt

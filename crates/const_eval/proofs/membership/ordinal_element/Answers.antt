@@ -142,3 +142,6 @@ returns-else-value-clause-there g c = tt
 
 pub taken_beside-element-requires : goal.taken_beside-element-requires
 taken_beside-element-requires g c = subst (λ (l : List (List ℕ)). IsNamed l c.args.x) (sym (ap (λ (t : UnitTexts). t.names) c.texts.view_is)) (operand_named c.requires.suits c.args.x c.requires.x)
+
+pub operand_type-requires : goal.operand_type-requires
+operand_type-requires g c = tt

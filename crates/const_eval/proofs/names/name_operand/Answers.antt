@@ -1,4 +1,4 @@
-use Rattle.std.proofs.Common.{◌∙◌, Ok, Option, ap, sym}
+use Rattle.std.proofs.Common.{◌∙◌, Ok, Option, ap, sym, subst}
 use Rattle.std.specs.Option.{IfSome}
 use Rattle.m2_base.specs.Gives.{gives}
 use Rattle.m2_base.specs.Statics.Constants.{in_constant}
@@ -8,10 +8,11 @@ use Rattle.m2_base.specs.declared.operands.Operand.TheVariants.{InError}
 use Rattle.m2_base.specs.declared.replies.Ask.TheVariants.{Known, DontKnowYet}
 use Rattle.m2_base.specs.declared.rows.Place.{Place}
 use Rattle.m2_base.specs.declared.rows.Row.{Row}
-use Rattle.type_rules.specs.Scenes.{IsRowOf, scene_of}
+use Rattle.type_rules.specs.Scenes.{IsRowOf, scene_of, Suits}
 use Rattle.const_eval.specs.Analyses.{Analysed}
 use Rattle.const_eval.specs.Sites.{IsOperand}
 use Rattle.const_eval.proofs.Analysing.{and_after, quiet, value_everywhere}
+use Rattle.m2_base.specs.States.{Frame}
 use Rattle.const_eval.proofs.names.name_operand.Goals as goal
 
 pub returns-in-Known-operand_of : goal.returns-in-Known-operand_of
@@ -64,3 +65,20 @@ returns-in-None g c =
 
 pub in_constant-requires : goal.in_constant-requires
 in_constant-requires g c = tt
+
+pub use_name-requires : goal.use_name-requires
+use_name-requires g c = record { suits = c.requires.suits; within = c.requires.within; named = c.requires.named }
+
+pub operand_of-requires : goal.operand_of-requires
+operand_of-requires g c =
+    record {
+      suits = subst (λ (f : Frame). Suits f c.args.site.now.around.now) (sym c.use_name.ensures.works.keeps.frame) c.requires.suits.around;
+      row = subst (λ (f : Frame). IsRowOf f c.in-Some.place c.in-Some.row) (sym c.use_name.ensures.works.keeps.frame) (rw (c.in-Known.is, c.in-Some.is) at c.in-Ok.ensures.row);
+    }
+
+pub returns-in-DontKnowYet : goal.returns-in-DontKnowYet
+returns-in-DontKnowYet g c =
+    record { works = c.use_name.ensures.works; waits = rw c.in-DontKnowYet.is at c.in-Ok.ensures.waits; told = λ made in_hand told of_site. tt; there = tt }
+
+pub returns-in-Err : goal.returns-in-Err
+returns-in-Err g c = record { works = c.use_name.ensures.works; waits = tt; told = λ made in_hand told of_site. tt; there = tt }

@@ -8,6 +8,7 @@ use Rattle.type_rules.specs.Scenes.{scene_of}
 use Rattle.type_rules.proofs.Compatibles.{told_as}
 use Rattle.type_rules.proofs.Later.{IsThere_before}
 use Rattle.type_rules.proofs.Reading.{Reads-refl}
+use Rattle.const_eval.proofs.Besides.{other_row}
 use Rattle.const_eval.proofs.names.operand_of.Goals as goal
 
 pub returns-in-Const-clause-told : goal.returns-in-Const-clause-told
@@ -182,3 +183,10 @@ returns-in-Module-clause-there g c =
     let within = c.requires.row.there.scope in
     let below = (rw (sym c.read_row.ensures ∙ c.in-Module.is) at c.requires.row.said.fits) in
     omega (arith, within, below)
+
+pub returns-in_default-clause-told : goal.returns-in_default-clause-told
+returns-in_default-clause-told g c made in_hand told =
+    let scene = scene_of (g.S.Scopes.state c.args.scopes.now).frame made c.args.around.now in
+    let other = c.in_default in
+    other_row scene c.args.row.name c.read_row.result other.not-Const other.not-TypeName other.not-Var other.not-Proc other.not-Module other.not-Standard
+    ∙ ap (operand_by scene c.args.row.name) c.read_row.ensures

@@ -23,3 +23,18 @@ is_bad-requires c = tt
 
 pub is_bad-requires-else-is_bad : goal.is_bad-requires-else-is_bad
 is_bad-requires-else-is_bad c = tt
+
+pub fold-requires : goal.fold-requires
+fold-requires c = tt
+
+pub returns-in-None-clause-there : goal.returns-in-None-clause-there
+returns-in-None-clause-there c f of = tt
+
+pub returns-in_default-clause-there : goal.returns-in_default-clause-there
+returns-in_default-clause-there c f of = of
+
+pub returns-in_default-2-clause-there : goal.returns-in_default-2-clause-there
+returns-in_default-2-clause-there c f of = of
+
+pub returns-then-is_bad-clause-there : goal.returns-then-is_bad-clause-there
+returns-then-is_bad-clause-there c f of = tt

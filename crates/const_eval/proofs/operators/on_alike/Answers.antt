@@ -275,3 +275,15 @@ on_numbers-requires g c = tt
 
 pub set_operation-requires : goal.set_operation-requires
 set_operation-requires g c = tt
+
+pub base_by-first-requires : goal.base_by-first-requires
+base_by-first-requires g c = tt
+
+pub base_by-second-requires : goal.base_by-second-requires
+base_by-second-requires g c = tt
+
+pub operand_type-requires : goal.operand_type-requires
+operand_type-requires g c = tt
+
+pub operand_type-requires-2 : goal.operand_type-requires-2
+operand_type-requires-2 g c = tt

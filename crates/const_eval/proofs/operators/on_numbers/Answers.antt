@@ -1,4 +1,4 @@
-use Rattle.std.proofs.Common.{◌≡◌, ◌∙◌, ◌||◌, ap, rules, sym, true}
+use Rattle.std.proofs.Common.{◌≡◌, ◌∙◌, ◌||◌, ap, rules, sym, true, subst}
 use Rattle.m2_base.specs.Standard.{boolean}
 use Rattle.m2_base.specs.Statics.Folding.{is_arithmetic, is_relation, number_type}
 use Rattle.m2_base.specs.Statics.Operations.{as_number, base_type, gives_result, number_operation}
@@ -7,8 +7,10 @@ use Rattle.m2_base.specs.declared.rows.Place.{Place}
 use Rattle.const_eval.proofs.Besides.{number_kept, number_taken}
 use Rattle.const_eval.proofs.Judging.{after_ok}
 use Rattle.const_eval.proofs.Operating.{arithmetic_is, arithmetic_result, relation_is, relation_result}
-use Rattle.const_eval.proofs.Refusals.{refused_left, stands_left}
+use Rattle.const_eval.proofs.Refusals.{refused_left, stands_left, refused_right}
 use Rattle.const_eval.proofs.Standard.{number_base, whole_base}
+use Rattle.type_rules.specs.Scenes.{IsThere}
+use Rattle.const_eval.proofs.TypesThere.{number_there, standard_there}
 use Rattle.const_eval.proofs.operators.on_numbers.Goals as goal
 use Rattle.const_eval.proofs.operators.on_numbers.Goals.{else-takes_base, in-Plus, in_default, then-takes_base}
 
@@ -73,3 +75,24 @@ takes_base-requires c = tt
 
 pub returns-in-Err-as_number-clause-there : goal.returns-in-Err-as_number-clause-there
 returns-in-Err-as_number-clause-there c f a suits x y = tt
+
+pub is_relation-requires : goal.is_relation-requires
+is_relation-requires c = tt
+
+pub returns-in-Ok-as_number-clause-there : goal.returns-in-Ok-as_number-clause-there
+returns-in-Ok-as_number-clause-there c f a suits x y =
+    c.combined.ensures.there f (elim c.match-operator.branch [
+      | in-Plus w ↦ subst (λ (t : Place). IsThere f t) (sym (w.of-is ∙ w.number_type-of.ensures)) (number_there suits c.number_kind-kind.result)
+      | in_default w ↦ subst (λ (t : Place). IsThere f t) (sym w.of-is) (standard_there suits 3)
+    ])
+
+pub returns-in-Err-as_number-clause-told : goal.returns-in-Err-as_number-clause-told
+returns-in-Err-as_number-clause-told c k there left right =
+    let op = c.args.operator.operator in
+    let number : is_arithmetic op || is_relation op ≡ true = elim c.match-operator.branch [
+      | in-Plus w ↦ arithmetic_is op (search rules)
+      | in_default w ↦ relation_is op (sym w.is_relation.ensures ∙ w.if-is_relation.true)
+    ] in
+    refused_right k op c.args.operator.at c.args.x.operand c.in-Ok.left c.args.x.at c.args.y.operand c.args.y.at c.in-Err-as_number.fault number
+    (c.in-Ok.ensures.told k there ∙ ap (λ t. as_number k c.args.x.at t c.args.x.operand) right)
+    (c.in-Err-as_number.ensures.told k there ∙ ap (λ t. as_number k c.args.y.at t c.args.y.operand) left)

@@ -6,6 +6,7 @@ use Rattle.type_rules.proofs.Later.{IsThere_read, Suits_read}
 use Rattle.type_rules.proofs.Reading.{Reads-trans, Waits_read}
 use Rattle.const_eval.proofs.Judging.{told_first}
 use Rattle.const_eval.proofs.Operating.{compared, scalars_by}
+use Rattle.const_eval.proofs.TypesThere.{standard_there}
 use Rattle.const_eval.proofs.operators.on_scalars.Goals as goal
 
 pub stand-requires-2-clause-suits : goal.stand-requires-2-clause-suits
@@ -70,3 +71,12 @@ combined-requires g c = tt
 
 pub compares-requires : goal.compares-requires
 compares-requires g c = tt
+
+pub returns-else-compares-clause-there : goal.returns-else-compares-clause-there
+returns-else-compares-clause-there g c = tt
+
+pub returns-then-compares-clause-there : goal.returns-then-compares-clause-there
+returns-then-compares-clause-there g c = c.combined.ensures.there (g.S.Scopes.state c.args.scopes.now).frame (standard_there c.requires.suits.around 3)
+
+pub stand-requires : goal.stand-requires
+stand-requires g c = record { suits = c.requires.suits.around; there = c.requires.x.base }

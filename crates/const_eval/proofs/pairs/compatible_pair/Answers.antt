@@ -106,3 +106,9 @@ taken_beside-first-requires g c = subst (λ (l : List (List ℕ)). IsNamed l c.a
 
 pub taken_beside-second-requires : goal.taken_beside-second-requires
 taken_beside-second-requires g c = subst (λ (l : List (List ℕ)). IsNamed l c.args.y) (sym (ap (λ (t : UnitTexts). t.names) c.texts.view_is)) (operand_named c.requires.suits c.args.y c.requires.y)
+
+pub operand_type-requires : goal.operand_type-requires
+operand_type-requires g c = tt
+
+pub operand_type-requires-2 : goal.operand_type-requires-2
+operand_type-requires-2 g c = tt

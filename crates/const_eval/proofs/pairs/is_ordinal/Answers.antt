@@ -1,12 +1,14 @@
-use Rattle.std.proofs.Common.{◌∙◌, sym, ap}
+use Rattle.std.proofs.Common.{◌∙◌, sym, ap, subst}
 use Rattle.std.specs.Prelude.{◌||◌, is_some}
 use Rattle.m2_base.specs.Rows.{is_same_place}
 use Rattle.m2_base.specs.Standard.{whole}
 use Rattle.m2_base.specs.Statics.Operands.{operand_type}
 use Rattle.m2_base.specs.Statics.Types.{range_of}
-use Rattle.type_rules.specs.Scenes.{scene_of}
+use Rattle.type_rules.specs.Scenes.{scene_of, IsThere}
 use Rattle.type_rules.proofs.Reading.{Reads-refl}
 use Rattle.const_eval.proofs.TypePairs.{ends_some}
+use Rattle.m2_base.specs.declared.rows.Place.{Place}
+use Rattle.const_eval.proofs.TypesThere.{type_there}
 use Rattle.const_eval.proofs.pairs.is_ordinal.Goals as goal
 
 pub eq-requires : goal.eq-requires
@@ -50,3 +52,6 @@ returns-then-eq g c =
           sym (ap (λ b. b || is_some (range_of scene (operand_type c.args.x))) is));
       stops = tt;
     }
+
+pub range_of-requires-clause-there : goal.range_of-requires-clause-there
+range_of-requires-clause-there g c = subst (λ (t : Place). IsThere (g.S.Scopes.state c.args.scopes.now).frame t) (sym c.operand_type-of.ensures) (type_there c.requires.suits.around c.args.x c.requires.x)

@@ -58,3 +58,9 @@ returns-then-value-clause-waits g c = tt
 
 pub returns-else-value-clause-waits : goal.returns-else-value-clause-waits
 returns-else-value-clause-waits g c = tt
+
+pub returns-then-value-clause-there : goal.returns-then-value-clause-there
+returns-then-value-clause-there g c = tt
+
+pub set_base-requires : goal.set_base-requires
+set_base-requires g c = record { suits = c.requires.suits; of = c.requires.of }

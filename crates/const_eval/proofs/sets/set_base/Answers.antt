@@ -3,6 +3,7 @@ use Rattle.m2_base.specs.Statics.Types.{kind_of, stands_for}
 use Rattle.type_rules.specs.Scenes.{scene_of}
 use Rattle.const_eval.specs.Structures.{base_by}
 use Rattle.const_eval.proofs.SetRows.{set_base_is}
+use Rattle.const_eval.proofs.TypesThere.{standard_there}
 use Rattle.const_eval.proofs.sets.set_base.Goals as goal
 
 pub returns-in-Some-clause-told : goal.returns-in-Some-clause-told
@@ -44,3 +45,15 @@ returns-in-Some-clause-waits g c = tt
 
 pub returns-in-Some-clause-stops : goal.returns-in-Some-clause-stops
 returns-in-Some-clause-stops g c = tt
+
+pub returns-in-DontKnowYet-clause-stops : goal.returns-in-DontKnowYet-clause-stops
+returns-in-DontKnowYet-clause-stops g c = c.in-DontKnowYet.ensures.stops
+
+pub returns-in-None-clause-there : goal.returns-in-None-clause-there
+returns-in-None-clause-there g c = standard_there c.requires.suits.around 10
+
+pub returns-in-Some-clause-there : goal.returns-in-Some-clause-there
+returns-in-Some-clause-there g c = (rw c.in-Some.is at c.in-Known.ensures.there).1
+
+pub set_row-requires : goal.set_row-requires
+set_row-requires g c = record { suits = c.requires.suits.around; there = c.requires.of }
