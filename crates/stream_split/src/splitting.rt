@@ -3,37 +3,24 @@ ghost use Rattle.std.specs.Prelude.{◌≡◌, ◌<◌, ◌^◌, IfOk, length, m
 ghost use Rattle.std.specs.List.{All};
 ghost use Rattle.m2_base.specs.Statics.BlockLimits.{limit_of};
 ghost use Rattle.stream_split.specs.Limits.{Within};
-ghost use Rattle.stream_split.specs.Streams.{streams_of, main_tokens, definition_stream, definition_streams};
-ghost use Rattle.stream_split.specs.Streams.{tokens_in};
+ghost use Rattle.stream_split.specs.Streams.{streams_of, main_tokens, definition_streams, tokens_in};
 ghost use Rattle.stream_split.specs.Views.{stream_view};
 
 use crate::cutter::{main_streams, number_of};
 use crate::streams::{SplitFault, StreamTokens};
-use m2_base::{StreamKind, Texts};
+use m2_base::{StreamKind, Texts, Token};
 use std::alloc::{AllocError, Global};
 
-/// The stream of a definition module, whose text has the number `k`.
-fn definition_text(
-    alloc: Global,
-    texts: &Texts,
-    stream: u32,
-    k: u32,
-) -> Result<StreamTokens, AllocError>
-    ensures stream { IfOk result
-        (λ s. stream_view s ≡ definition_stream stream k (tokens_in (slice_get texts.now.list k))) }
+/// The tokens of the text with this number; none where there is none.
+fn tokens_of(alloc: Global, texts: &Texts, text: u32) -> Result<Vec<Token>, AllocError>
+    ensures tokens { IfOk result (λ tokens. tokens.items ≡ tokens_in (slice_get texts.now.list text)) }
 {
     let mut tokens = Vec::new(alloc);
-    if let Some(text) = texts.list.get(k as usize) {
-        tokens.extend_from_slice(text.tokens.as_slice())?;
-    }
-    Ok(StreamTokens {
-        stream,
-        text: k,
-        outer: 0,
-        level: 0,
-        kind: StreamKind::Definition,
-        tokens,
-    })
+    let Some(found) = texts.list.get(text as usize) else {
+        return Ok(tokens);
+    };
+    tokens.extend_from_slice(found.tokens.as_slice())?;
+    Ok(tokens)
 }
 
 /// The streams of the definition modules, in dependency order.
@@ -46,8 +33,15 @@ fn definition_texts(alloc: Global, texts: &Texts) -> Result<Vec<StreamTokens>, A
         let Some(stream) = number_of(1, streams.len()) else {
             return Err(AllocError);
         };
-        let text = definition_text(alloc, texts, stream, *k)?;
-        streams.push(text)?;
+        let tokens = tokens_of(alloc, texts, *k)?;
+        streams.push(StreamTokens {
+            stream,
+            text: *k,
+            outer: 0,
+            level: 0,
+            kind: StreamKind::Definition,
+            tokens,
+        })?;
     }
     Ok(streams)
 }
