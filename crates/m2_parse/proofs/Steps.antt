@@ -1,6 +1,7 @@
 -- The steps of reading: the one that fails, those before it, and the error that is handed on.
-use Rattle.std.proofs.Common.{◌≡◌, List, Result, Ok, Err, Option, Some, None, ap, sym, subst, ◌∙◌}
-use Rattle.std.specs.Prelude.{IsErrAnd}
+use Rattle.std.proofs.Common.{◌≡◌, Bool, true, false, List, Result, Ok, Err, Option, Some, None, ap, sym, subst, ◌∙◌}
+use Rattle.std.proofs.lemmas.Bool.{false≢true}
+use Rattle.std.specs.Prelude.{IsErrAnd, if◌then◌else◌}
 use Rattle.ll_grammar.specs.Readers.{◌>>=◌, Ends}
 use Rattle.m2_base.specs.declared.kind.TokenKind.{TokenKind}
 use Rattle.m2_base.specs.declared.token.Token.{Token}
@@ -74,3 +75,20 @@ pub handed_on : {X Y : Type 0} (view : X → Y) (e : ReadFault) (read : Result Y
     → Ends (cause e) read → Gives view r read
 handed_on view e read (Ok x) h j = absurd h
 handed_on view e read (Err f) h j = subst (λ g. Ends (cause g) read) (sym h) j
+
+-- The first step gives a, and the rest is what code returned.
+pub goes_on : {X Y A : Type 0} (view : X → Y) (r : Result X ReadFault) (first : Result A Refusal) (k : A → Result Y Refusal) {a : A} → first ≡ Ok a
+    → Gives view r (k a) → Gives view r (first >>= k)
+goes_on view r first k is h = subst (λ f. Gives view r (f >>= k)) (sym is) h
+
+-- The same, where the first step is taken.
+pub where_taken : {X Y A : Type 0} {b : Bool} (view : X → Y) (r : Result X ReadFault) (first : Result A Refusal) (k : A → Result Y Refusal) (other : Result Y Refusal)
+    {a : A} → b ≡ true → first ≡ Ok a → Gives view r (k a) → Gives view r (if b then (first >>= k) else other)
+where_taken {b = true} view r first k other h is p = goes_on view r first k is p
+where_taken {b = false} view r first k other h is p = absurd (false≢true h)
+
+-- What was read, and then given as it is.
+pub as_read : {X Y : Type 0} (view : X → Y × List Token) (r : Result X ReadFault) (read : Result (Y × List Token) Refusal) → Gives view r read
+    → Gives view r (read >>= λ x. Ok (x.0, x.1))
+as_read view r (Ok x) h = h
+as_read view r (Err e) h = h

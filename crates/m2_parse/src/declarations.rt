@@ -17,7 +17,7 @@ ghost use Rattle.m2_parse.specs.ReadTypes.{type_at};
 use crate::blocks::Block;
 use crate::expressions::expr_until;
 use crate::faults::ReadFault;
-use crate::lists::{all_repeated, listed, repeated};
+use crate::lists::{all_repeated, list_of, listed, repeated};
 use crate::names::{ident, idents, qual};
 use crate::statements::statements;
 use crate::tokens::Tokens;
@@ -254,9 +254,7 @@ fn declaration(alloc: Global, tokens: &mut Tokens, depth: usize) -> Result<Vec<D
         return Ok(items);
     }
     let item = procedure(alloc, tokens)?;
-    let mut items = Vec::new(alloc);
-    items.push(item)?;
-    Ok(items)
+    Ok(list_of(alloc, item)?)
 }
 
 /// {Decl}
@@ -298,9 +296,7 @@ fn definition_declaration(
     let heading = heading(alloc, tokens)?;
     tokens.expect(TokenKind::Semicolon)?;
     let item = Decl::Proc { heading, stream: 0 };
-    let mut items = Vec::new(alloc);
-    items.push(item)?;
-    Ok(items)
+    Ok(list_of(alloc, item)?)
 }
 
 /// {DefDecl}
@@ -330,8 +326,7 @@ fn body(alloc: Global, tokens: &mut Tokens, depth: usize) -> Result<Vec<Statemen
     let Some(_) = tokens.next_if(TokenKind::Begin) else {
         return Ok(Vec::new(alloc));
     };
-    let items = statements(alloc, tokens, depth)?;
-    Ok(items)
+    statements(alloc, tokens, depth)
 }
 
 /// Block ident

@@ -14,7 +14,7 @@ ghost use Rattle.m2_parse.specs.ReadExpressions.{plain_set_with, bracketed_with,
 ghost use Rattle.m2_parse.specs.ReadExpressions.{inner_factor as spec_inner_factor, factor_at};
 
 use crate::faults::{ReadFault, Refusal};
-use crate::lists::{listed, repeated};
+use crate::lists::{list_of, listed, repeated};
 use crate::names::ident;
 use crate::operators::{
     expect_adding, expect_multiplying, expect_relation, expect_sign, is_adding, is_multiplying,
@@ -91,8 +91,7 @@ fn with_operators(alloc: Global, first: Expr, rest: Vec<Next>) -> Result<Expr, A
 fn with_operator(alloc: Global, first: Expr, next: Next) -> Result<Expr, AllocError>
     ensures { IfOk result (λ e. expr_view e ≡ spec_with_operators (expr_view first) (next_view next ∷ [])) }
 {
-    let mut rest = Vec::new(alloc);
-    rest.push(next)?;
+    let rest = list_of(alloc, next)?;
     with_operators(alloc, first, rest)
 }
 
@@ -181,10 +180,10 @@ fn bracketed(alloc: Global, tokens: &mut Tokens, depth: usize) -> Result<Expr, R
         (bracketed_with (factor_at depth) tokens.old.list.now) }
 {
     let open = tokens.expect(TokenKind::LeftParenthesis)?;
-    let inner = expr(alloc, tokens, depth)?;
+    let mut inner = expr(alloc, tokens, depth)?;
     tokens.expect(TokenKind::RightParenthesis)?;
-    let form = inner.form;
-    Ok(Expr { at: open.at, form })
+    inner.at = open.at;
+    Ok(inner)
 }
 
 /// NOT Factor

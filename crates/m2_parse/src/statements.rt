@@ -12,7 +12,7 @@ ghost use Rattle.m2_parse.specs.ReadStatements.{inner_statement as spec_inner_st
 
 use crate::expressions::{actuals, begins_expr, designator, expr, expr_until, labels, too_deep};
 use crate::faults::ReadFault;
-use crate::lists::{all_listed, listed, repeated};
+use crate::lists::{all_listed, list_of, listed, repeated};
 use crate::names::ident;
 use crate::tokens::Tokens;
 use m2_base::{CaseArm, Expr, IfArm, Statement, StmtForm, TokenKind};
@@ -127,8 +127,7 @@ fn other_statements(alloc: Global, other: Option<Vec<Statement>>) -> Vec<Stateme
 fn with_first(alloc: Global, first: IfArm, mut others: Vec<IfArm>) -> Result<Vec<IfArm>, AllocError>
     ensures { IfOk result (λ v. v.items ≡ first ∷ others.items) }
 {
-    let mut arms = Vec::new(alloc);
-    arms.push(first)?;
+    let mut arms = list_of(alloc, first)?;
     arms.append(&mut others)?;
     Ok(arms)
 }
@@ -253,8 +252,7 @@ fn elsif(alloc: Global, tokens: &mut Tokens, depth: usize) -> Result<IfArm, Read
         (elsif_with depth (statement_at depth) tokens.old.list.now) }
 {
     tokens.expect(TokenKind::Elsif)?;
-    let arm = if_arm(alloc, tokens, depth)?;
-    Ok(arm)
+    if_arm(alloc, tokens, depth)
 }
 
 /// {ELSIF Expr THEN Stmts}
@@ -305,15 +303,13 @@ fn arm(alloc: Global, tokens: &mut Tokens, depth: usize) -> Result<Vec<CaseArm>,
     ensures { Gives (λ x. (map case_arm_view x.items, tokens.new.list.now)) result
         (arm_with depth (statement_at depth) tokens.old.list.now) }
 {
-    let mut items = Vec::new(alloc);
     if !begins_expr(tokens) {
-        return Ok(items);
+        return Ok(Vec::new(alloc));
     }
     let labels = labels(alloc, tokens, depth)?;
     tokens.expect(TokenKind::Colon)?;
     let body = statements(alloc, tokens, depth)?;
-    items.push(CaseArm { labels, body })?;
-    Ok(items)
+    Ok(list_of(alloc, CaseArm { labels, body })?)
 }
 
 /// Arm {"|" Arm}

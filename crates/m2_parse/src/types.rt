@@ -15,7 +15,7 @@ ghost use Rattle.m2_parse.specs.ReadTypes.{type_at, field_at};
 
 use crate::expressions::{begins_expr, expr_until, labels, too_deep};
 use crate::faults::ReadFault;
-use crate::lists::{all_listed, listed};
+use crate::lists::{all_listed, list_of, listed};
 use crate::names::{ident, idents, qual};
 use crate::tokens::Tokens;
 use m2_base::{Expr, FieldList, Formal, Ident, Qual, TokenKind, TypeExpr, TypeForm, VariantArm};
@@ -354,13 +354,11 @@ fn optional_field(
     ensures { Gives (λ x. (map field_list_view x.items, tokens.new.list.now)) result
         (optional_field_with (factor_at depth) (type_at depth) (field_at depth) tokens.old.list.now) }
 {
-    let mut items = Vec::new(alloc);
     if !begins_field(tokens) {
-        return Ok(items);
+        return Ok(Vec::new(alloc));
     }
     let item = field(alloc, tokens, depth)?;
-    items.push(item)?;
-    Ok(items)
+    Ok(list_of(alloc, item)?)
 }
 
 /// A field list, one level deeper.
@@ -438,15 +436,13 @@ fn variant(alloc: Global, tokens: &mut Tokens, depth: usize) -> Result<Vec<Varia
     ensures { Gives (λ x. (map variant_arm_view x.items, tokens.new.list.now)) result
         (variant_with (factor_at depth) (type_at depth) (field_at depth) tokens.old.list.now) }
 {
-    let mut items = Vec::new(alloc);
     if !begins_expr(tokens) {
-        return Ok(items);
+        return Ok(Vec::new(alloc));
     }
     let labels = labels(alloc, tokens, depth)?;
     tokens.expect(TokenKind::Colon)?;
     let fields = fields(alloc, tokens, depth)?;
-    items.push(VariantArm { labels, fields })?;
-    Ok(items)
+    Ok(list_of(alloc, VariantArm { labels, fields })?)
 }
 
 /// [ELSE Fields]
@@ -462,6 +458,5 @@ fn other_fields(
     let Some(_) = tokens.next_if(TokenKind::Else) else {
         return Ok(Vec::new(alloc));
     };
-    let items = fields(alloc, tokens, depth)?;
-    Ok(items)
+    fields(alloc, tokens, depth)
 }

@@ -31,9 +31,9 @@ pub returns-in_err-item : goal.returns-in_err-item
 unfolding declaration_at
 returns-in_err-item c = grind (arith, common_steps)
 
-pub returns-in_err-push : goal.returns-in_err-push
+pub returns-in_err-list_of : goal.returns-in_err-list_of
 unfolding declaration_at
-returns-in_err-push c = grind (arith, common_steps)
+returns-in_err-list_of c = grind (arith, common_steps)
 
 pub returns : goal.returns
 unfolding declaration_at

@@ -35,9 +35,9 @@ pub returns-in_err-expect : goal.returns-in_err-expect
 unfolding definition_declaration_at
 returns-in_err-expect c = grind (arith, common_steps)
 
-pub returns-in_err-push : goal.returns-in_err-push
+pub returns-in_err-list_of : goal.returns-in_err-list_of
 unfolding definition_declaration_at
-returns-in_err-push c = grind (arith, common_steps)
+returns-in_err-list_of c = grind (arith, common_steps)
 
 pub returns : goal.returns
 unfolding definition_declaration_at

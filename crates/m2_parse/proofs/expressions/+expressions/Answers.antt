@@ -20,7 +20,7 @@ exprs-returns-in_err-item t c =
     handed_on _ _ _ c.from_residual-in_err-item.result c.from_residual-in_err-item.ensures.1 (list_ends _ c.loop.invariant c.loop-test.true c.in-Some.ensures.1 c.in_err-item.ensures)
 
 pub exprs-loop-init : goal.exprs-loop-init
-exprs-loop-init t c = listed_starts _ c.in_ok-first.ensures (ap (map expr_view) c.in_ok-items.ensures.items)
+exprs-loop-init t c = listed_starts _ c.in_ok-first.ensures (ap (map expr_view) c.in_ok-items.ensures)
 
 pub exprs-loop-preserved : goal.exprs-loop-preserved
 exprs-loop-preserved t c =
@@ -41,7 +41,7 @@ labels-returns-in_err-item t c =
     handed_on _ _ _ c.from_residual-in_err-item.result c.from_residual-in_err-item.ensures.1 (list_ends _ c.loop.invariant c.loop-test.true c.in-Some.ensures.1 c.in_err-item.ensures)
 
 pub labels-loop-init : goal.labels-loop-init
-labels-loop-init t c = listed_starts _ c.in_ok-first.ensures (ap (map label_view) c.in_ok-items.ensures.items)
+labels-loop-init t c = listed_starts _ c.in_ok-first.ensures (ap (map label_view) c.in_ok-items.ensures)
 
 pub labels-loop-preserved : goal.labels-loop-preserved
 labels-loop-preserved t c =

@@ -8,7 +8,7 @@ use Rattle.m2_parse.specs.Reading.{until}
 use Rattle.m2_parse.specs.ReadStatements.{arm_with, body_with, case_with, elsif_with, for_with, if_arm_with, if_arms_with, if_with, loop_with, optional_statement_with, otherwise_with, repeat_with, statement_at, while_with, with_with}
 use Rattle.m2_parse.proofs.ListLemmas.{list_goes_on, list_ends, list_stops}
 use Rattle.m2_parse.proofs.Others.{case_is, if_is, statement_is}
-use Rattle.m2_parse.proofs.Steps.{fails, fails_behind, gives_behind, handed_on, seen_as, until_behind, until_fails, until_gives}
+use Rattle.m2_parse.proofs.Steps.{as_read, fails, fails_behind, gives_behind, goes_on, handed_on, seen_as, until_behind, until_fails, until_gives}
 use Rattle.m2_parse.proofs.Bodies.{after_arms, arms_behind, arms_fail, arms_give, body_fails, body_gives, limit_behind, limit_fails, limit_gives}
 use Rattle.m2_parse.proofs.statements.+statements.Goals as goal
 
@@ -23,7 +23,7 @@ statements-returns-in_err-item t c =
     handed_on _ _ _ c.from_residual-in_err-item.result c.from_residual-in_err-item.ensures.1 (list_ends _ c.loop.invariant c.loop-test.true c.in-Some.ensures.1 c.in_err-item.ensures)
 
 pub statements-loop-init : goal.statements-loop-init
-statements-loop-init t c = listed_starts _ c.in_ok-first.ensures (ap (map statement_view) c.in_ok-items.ensures.items)
+statements-loop-init t c = listed_starts _ c.in_ok-first.ensures (ap (map statement_view) c.in_ok-items.ensures)
 
 pub statements-loop-preserved : goal.statements-loop-preserved
 statements-loop-preserved t c =
@@ -111,15 +111,9 @@ unfolding elsif_with
 elsif-returns-in_err-expect t c =
     handed_on _ _ _ c.from_residual.result c.from_residual.ensures.1 (fails _ _ _ c.in_err-expect.ensures.gives)
 
-pub elsif-returns-in_err-arm : goal.elsif-returns-in_err-arm
-unfolding elsif_with
-elsif-returns-in_err-arm t c =
-    handed_on _ _ _ c.from_residual-in_err-arm.result c.from_residual-in_err-arm.ensures.1
-    (fails_behind _ _ _ c.in_ok-expect.ensures.gives (fails _ _ _ c.in_err-arm.ensures))
-
 pub elsif-returns : goal.elsif-returns
 unfolding elsif_with
-elsif-returns t c = gives_behind _ _ c.in_ok-expect.ensures.gives (gives_behind _ _ c.in_ok-arm.ensures refl)
+elsif-returns t c = goes_on _ _ _ _ c.in_ok-expect.ensures.gives (as_read _ _ _ c.if_arm.ensures)
 
 pub if_arms-returns-in_err-first : goal.if_arms-returns-in_err-first
 unfolding if_arms_with
@@ -193,9 +187,9 @@ pub arm-returns-in_err-body : goal.arm-returns-in_err-body
 unfolding arm_with
 arm-returns-in_err-body t c = grind (arith, common_steps)
 
-pub arm-returns-in_err-push : goal.arm-returns-in_err-push
+pub arm-returns-in_err-list_of : goal.arm-returns-in_err-list_of
 unfolding arm_with
-arm-returns-in_err-push t c = grind (arith, common_steps)
+arm-returns-in_err-list_of t c = grind (arith, common_steps)
 
 pub arm-returns : goal.arm-returns
 unfolding arm_with

@@ -6,7 +6,7 @@ use Rattle.m2_base.specs.Views.{field_list_view, variant_arm_view}
 use Rattle.m2_base.proofs.Seen.{array_seen, case_fields_seen, plain_fields_seen, pointer_seen, record_seen, type_seen, variant_arm_seen}
 use Rattle.m2_parse.specs.ReadTypes.{array_with, case_fields_with, optional_field_with, other_fields_with, plain_fields_with, pointer_with, record_with, variant_with}
 use Rattle.m2_parse.proofs.ListLemmas.{list_goes_on, list_ends, list_stops}
-use Rattle.m2_parse.proofs.Steps.{handed_on, fails, fails_behind}
+use Rattle.m2_parse.proofs.Steps.{as_read, handed_on, fails, fails_behind, where_taken}
 use Rattle.m2_parse.proofs.types.+types.Goals as goal
 
 pub fields-returns-in_default : goal.fields-returns-in_default
@@ -140,9 +140,9 @@ pub optional_field-returns-in_err-item : goal.optional_field-returns-in_err-item
 unfolding optional_field_with
 optional_field-returns-in_err-item t c = grind (arith, common_steps)
 
-pub optional_field-returns-in_err-push : goal.optional_field-returns-in_err-push
+pub optional_field-returns-in_err-list_of : goal.optional_field-returns-in_err-list_of
 unfolding optional_field_with
-optional_field-returns-in_err-push t c = grind (arith, common_steps)
+optional_field-returns-in_err-list_of t c = grind (arith, common_steps)
 
 pub optional_field-returns : goal.optional_field-returns
 unfolding optional_field_with
@@ -249,9 +249,9 @@ pub variant-returns-in_err-fields : goal.variant-returns-in_err-fields
 unfolding variant_with
 variant-returns-in_err-fields t c = grind (arith, common_steps)
 
-pub variant-returns-in_err-push : goal.variant-returns-in_err-push
+pub variant-returns-in_err-list_of : goal.variant-returns-in_err-list_of
 unfolding variant_with
-variant-returns-in_err-push t c = grind (arith, common_steps)
+variant-returns-in_err-list_of t c = grind (arith, common_steps)
 
 pub variant-returns : goal.variant-returns
 unfolding variant_with
@@ -261,10 +261,6 @@ pub other_fields-returns-in_default : goal.other_fields-returns-in_default
 unfolding other_fields_with
 other_fields-returns-in_default t c = grind (arith, common_steps)
 
-pub other_fields-returns-in_err-items : goal.other_fields-returns-in_err-items
-unfolding other_fields_with
-other_fields-returns-in_err-items t c = grind (arith, common_steps)
-
 pub other_fields-returns : goal.other_fields-returns
 unfolding other_fields_with
-other_fields-returns t c = grind (arith, common_steps)
+other_fields-returns t c = where_taken _ _ _ _ _ c.in-Some.ensures.0 c.in-Some.ensures.1 (as_read _ _ _ c.fields.ensures)

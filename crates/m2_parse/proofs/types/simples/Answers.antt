@@ -17,7 +17,7 @@ returns-in_err-item c =
     handed_on _ _ _ c.from_residual-in_err-item.result c.from_residual-in_err-item.ensures.1 (list_ends _ c.loop.invariant c.loop-test.true c.in-Some.ensures.1 c.in_err-item.ensures)
 
 pub loop-init : goal.loop-init
-loop-init c = listed_starts _ c.in_ok-first.ensures (ap (map type_view) c.in_ok-items.ensures.items)
+loop-init c = listed_starts _ c.in_ok-first.ensures (ap (map type_view) c.in_ok-items.ensures)
 
 pub loop-preserved : goal.loop-preserved
 loop-preserved c =
