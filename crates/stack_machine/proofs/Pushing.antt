@@ -40,7 +40,7 @@ module _ {A C : Type 0} (f : List A → List C) (xs : List A) where
 pub counted_more : (os : List Contents) (i : ℕ) (o : Contents) (count more whole : ℕ) → i < length os → o ≡ get_or os i o → more ≡ length o.procedures → count + count_of (drop i os) ≡ whole → count + more + count_of (drop (i + 1) os) ≡ whole
 counted_more os i o count more whole lt is added so_far =
     let next : count_of (drop i os) ≡ more + count_of (drop (i + 1) os) =
-        at_drop_more count_of os i o lt ∙ ap (λ (x : Contents). length x.procedures + count_of (drop (i + 1) os)) (sym is) ∙ ap (λ (k : ℕ). k + count_of (drop (i + 1) os)) (sym added) in
+    at_drop_more count_of os i o lt ∙ ap (λ (x : Contents). length x.procedures + count_of (drop (i + 1) os)) (sym is) ∙ ap (λ (k : ℕ). k + count_of (drop (i + 1) os)) (sym added) in
     omega (arith, next, so_far)
 
 pub counted_all : (os : List Contents) (i count whole : ℕ) → length os ≤ i → count + count_of (drop i os) ≡ whole → count ≡ whole

@@ -15,7 +15,7 @@ use Rattle.stack_machine.proofs.act.call_value.Goals as goal
 pub call-requires-clause-params : goal.call-requires-clause-params
 call-requires-clause-params c =
     let e0 : callee_of (program_of c.args.code.now) (top_of c.args.n (state_of c.args.core.now).operands) c.args.n c.args.r ≡ Some (callees.Routine c.in-Some-Routine.k) =
-        callee_told (program_of c.args.code.now) c.operand.result (top_of c.args.n (state_of c.args.core.now).operands) c.args.n c.args.r c.callee.result (record { sfits = c.operand.type_inv }) c.operand.ensures c.callee.ensures ∙ c.in-Some-Routine.is ∙ ap Some c.in-Some-Routine.field-0-is in
+    callee_told (program_of c.args.code.now) c.operand.result (top_of c.args.n (state_of c.args.core.now).operands) c.args.n c.args.r c.callee.result (record { sfits = c.operand.type_inv }) c.operand.ensures c.callee.ensures ∙ c.in-Some-Routine.is ∙ ap Some c.in-Some-Routine.field-0-is in
     let is = callee_routine (program_of c.args.code.now) (top_of c.args.n (state_of c.args.core.now).operands) c.args.n c.args.r c.in-Some-Routine.k e0 in
     let same = found c.args.code.now.routines.items c.in-Some-Routine.k is.routine c.index.result.now is.is c.index.ensures in
     let params = is.params in
@@ -24,7 +24,7 @@ call-requires-clause-params c =
 pub call-requires-clause-small : goal.call-requires-clause-small
 call-requires-clause-small c =
     let e0 : callee_of (program_of c.args.code.now) (top_of c.args.n (state_of c.args.core.now).operands) c.args.n c.args.r ≡ Some (callees.Routine c.in-Some-Routine.k) =
-        callee_told (program_of c.args.code.now) c.operand.result (top_of c.args.n (state_of c.args.core.now).operands) c.args.n c.args.r c.callee.result (record { sfits = c.operand.type_inv }) c.operand.ensures c.callee.ensures ∙ c.in-Some-Routine.is ∙ ap Some c.in-Some-Routine.field-0-is in
+    callee_told (program_of c.args.code.now) c.operand.result (top_of c.args.n (state_of c.args.core.now).operands) c.args.n c.args.r c.callee.result (record { sfits = c.operand.type_inv }) c.operand.ensures c.callee.ensures ∙ c.in-Some-Routine.is ∙ ap Some c.in-Some-Routine.field-0-is in
     let is = callee_routine (program_of c.args.code.now) (top_of c.args.n (state_of c.args.core.now).operands) c.args.n c.args.r c.in-Some-Routine.k e0 in
     let same = found c.args.code.now.routines.items c.in-Some-Routine.k is.routine c.index.result.now is.is c.index.ensures in
     subst IsSmall same (c.requires.small c.in-Some-Routine.k is.routine is.is)
@@ -35,7 +35,7 @@ returns-in-Some-Routine-clause-comes c = λ got.
     let p = program_of c.args.code.now in
     let s = state_of c.args.core.now in
     let e0 : callee_of (program_of c.args.code.now) (top_of c.args.n (state_of c.args.core.now).operands) c.args.n c.args.r ≡ Some (callees.Routine c.in-Some-Routine.k) =
-        callee_told (program_of c.args.code.now) c.operand.result (top_of c.args.n (state_of c.args.core.now).operands) c.args.n c.args.r c.callee.result (record { sfits = c.operand.type_inv }) c.operand.ensures c.callee.ensures ∙ c.in-Some-Routine.is ∙ ap Some c.in-Some-Routine.field-0-is in
+    callee_told (program_of c.args.code.now) c.operand.result (top_of c.args.n (state_of c.args.core.now).operands) c.args.n c.args.r c.callee.result (record { sfits = c.operand.type_inv }) c.operand.ensures c.callee.ensures ∙ c.in-Some-Routine.is ∙ ap Some c.in-Some-Routine.field-0-is in
     let is = callee_routine p (top_of c.args.n (state_of c.args.core.now).operands) c.args.n c.args.r c.in-Some-Routine.k e0 in
     let same = found c.args.code.now.routines.items c.in-Some-Routine.k is.routine c.index.result.now is.is c.index.ensures in
     let e1 : slice_get p.routines c.in-Some-Routine.k ≡ Some c.index.result.now = is.is ∙ ap Some same in
@@ -45,7 +45,7 @@ returns-in-Some-Routine-clause-comes c = λ got.
 pub index-requires : goal.index-requires
 index-requires c =
     let e0 : callee_of (program_of c.args.code.now) (top_of c.args.n (state_of c.args.core.now).operands) c.args.n c.args.r ≡ Some (callees.Routine c.in-Some-Routine.k) =
-        callee_told (program_of c.args.code.now) c.operand.result (top_of c.args.n (state_of c.args.core.now).operands) c.args.n c.args.r c.callee.result (record { sfits = c.operand.type_inv }) c.operand.ensures c.callee.ensures ∙ c.in-Some-Routine.is ∙ ap Some c.in-Some-Routine.field-0-is in
+    callee_told (program_of c.args.code.now) c.operand.result (top_of c.args.n (state_of c.args.core.now).operands) c.args.n c.args.r c.callee.result (record { sfits = c.operand.type_inv }) c.operand.ensures c.callee.ensures ∙ c.in-Some-Routine.is ∙ ap Some c.in-Some-Routine.field-0-is in
     let is = callee_routine (program_of c.args.code.now) (top_of c.args.n (state_of c.args.core.now).operands) c.args.n c.args.r c.in-Some-Routine.k e0 in
     let lt = within c.args.code.now.routines.items c.in-Some-Routine.k is.routine is.is in
     let len = c.args.code.now.routines.ok.0 in

@@ -70,7 +70,7 @@ returns-clause-comes c =
     let small : heap < 2 ^ 63 = omega (arith, below, few) in
     let long : length c.clear.new.cells ≡ length cells.items = c.clear.auto.cells ∙ ap length c.deref_mut.ensures.value in
     let items : slice_set c.clear.new.cells c.in-Some.a (pos heap) ≡ slice_set (cleared s.cells heap c.args.n) c.in-Some.a (pos heap) =
-        ap (λ (xs : List ℤ). slice_set xs c.in-Some.a (pos heap)) (c.clear.ensures ∙ ap (λ (xs : List ℤ). cleared xs heap c.args.n) c.deref_mut.ensures.value) in
+    ap (λ (xs : List ℤ). slice_set xs c.in-Some.a (pos heap)) (c.clear.ensures ∙ ap (λ (xs : List ℤ). cleared xs heap c.args.n) c.deref_mut.ensures.value) in
     comes_to c.take.result _ _ s (state_of c.take.new.core) _
     (allocates c.args.n s c.in-Some.a _ c.if-core-n.false
     (cell_told s.cells c.deref.result.now c.operand.result (top_of 0 s.operands) c.cell.result (Some c.in-Some.a) c.deref.ensures.value (record { sfits = c.operand.type_inv }) c.operand.ensures c.cell.ensures c.in-Some.is)

@@ -85,7 +85,7 @@ returns-clause-comes c =
     let cells = c.args.core.now.cells in
     let long : length c.copy.new.cells ≡ length cells.items = c.copy.auto.cells ∙ ap length c.deref_mut.ensures.value in
     let items : (with_items cells c.copy.new.cells).items ≡ copy_within s.cells c.in-Some-part.from (c.in-Some-part.from + c.args.n) c.in-Some.to =
-        refilled cells c.copy.new.cells long ∙ c.copy.ensures ∙ ap (λ (xs : List ℤ). copy_within xs c.in-Some-part.from (c.in-Some-part.from + c.args.n) c.in-Some.to) c.deref_mut.ensures.value in
+    refilled cells c.copy.new.cells long ∙ c.copy.ensures ∙ ap (λ (xs : List ℤ). copy_within xs c.in-Some-part.from (c.in-Some-part.from + c.args.n) c.in-Some.to) c.deref_mut.ensures.value in
     comes_to c.take-2.result _ _ s (state_of c.take-2.new.core) _
     (moves c.args.n s c.in-Some.to c.in-Some-part.from (with_items cells c.copy.new.cells).items c.if-n-eq0.false
     (part_told s.cells c.deref.result.now c.args.n c.operand.result (top_of 1 s.operands) c.part.result (Some c.in-Some.to) c.deref.ensures.value (record { sfits = c.operand.type_inv }) c.operand.ensures c.part.ensures c.in-Some.is)

@@ -54,8 +54,7 @@ returns-in_default-source-clause-comes c =
     let high : c.index.result.now ≡ cell_of s.cells (s.base + c.args.o + 1) = get_or_read s.cells _ _ (omega (arith, local, heap, top)) c.index.ensures (pos 0) in
     let high_fits : FitsSigned w64 c.index.result.now = search rules in
     let first : c.index-2.result.now ≡ cell_of s.cells (s.base + c.args.o) = get_or_read s.cells _ _ (omega (arith, local, heap, top)) c.index-2.ensures (pos 0) in
-    let first_fits : FitsSigned w64 c.index-2.result.now = search rules in
-    (
+    let first_fits : FitsSigned w64 c.index-2.result.now = search rules in (
       opens c.in-Some.n c.args.o c.args.size s (to_z w64 (of_z w64 c.index.result.now)) None c.in-Some.ensures.some.0 (passed c.index.result.now (cell_of s.cells (s.base + c.args.o + 1)) high_fits high) (omega (arith, few, top))
           (source_told s.cells c.deref.result.now c.in-Some.n c.index-2.result.now (cell_of s.cells (s.base + c.args.o)) c.source.result None c.deref.ensures.value first_fits first c.source.ensures c.in_default-source.is),
       refl,

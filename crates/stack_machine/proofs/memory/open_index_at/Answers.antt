@@ -20,7 +20,7 @@ pub returns-in_default-checked_mul-clause-comes : goal.returns-in_default-checke
 returns-in_default-checked_mul-clause-comes c =
     let s = state_of c.args.core.now in (
       ap (indexed s 3 c.args.address c.args.size) c.in-Some.is
-      ∙ ap (made s 3) (far_is_none (length s.cells) (c.in-Some.k * c.args.size) c.args.address c.requires.able.room.small (not_below c.in_default-checked_mul.ensures) c.ranges.address),
+          ∙ ap (made s 3) (far_is_none (length s.cells) (c.in-Some.k * c.args.size) c.args.address c.requires.able.room.small (not_below c.in_default-checked_mul.ensures) c.ranges.address),
       refl,
     )
 
@@ -34,9 +34,9 @@ pub returns-clause-comes : goal.returns-clause-comes
 returns-clause-comes c =
     let s = state_of c.args.core.now in
     let address : c.reach-a.result ≡ below (length s.cells) (c.args.address +ℤ pos (c.in-Some.k * c.args.size)) =
-        c.reach-a.ensures ∙ ap (λ (n : ℕ). below n (to_z w64 (of_z w64 c.args.address) +ℤ pos c.in-Some-checked_mul.far)) (c.len.ensures ∙ c.args.core.now.cells.ok.0)
-        ∙ ap (λ (z : ℤ). below (length s.cells) (z +ℤ pos c.in-Some-checked_mul.far)) (to_z-of_z w64 c.args.address c.ranges.address)
-        ∙ ap (λ (k : ℕ). below (length s.cells) (c.args.address +ℤ pos k)) c.in-Some-checked_mul.ensures.1 in
+    c.reach-a.ensures ∙ ap (λ (n : ℕ). below n (to_z w64 (of_z w64 c.args.address) +ℤ pos c.in-Some-checked_mul.far)) (c.len.ensures ∙ c.args.core.now.cells.ok.0)
+    ∙ ap (λ (z : ℤ). below (length s.cells) (z +ℤ pos c.in-Some-checked_mul.far)) (to_z-of_z w64 c.args.address c.ranges.address)
+    ∙ ap (λ (k : ℕ). below (length s.cells) (c.args.address +ℤ pos k)) c.in-Some-checked_mul.ensures.1 in
     subst (λ (next : Next). Comes c.give_address.result next s (state_of c.give_address.new.core))
     (ap (made s 3) address ∙ sym (ap (indexed s 3 c.args.address c.args.size) c.in-Some.is))
     c.give_address.ensures.comes
