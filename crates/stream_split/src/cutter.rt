@@ -427,7 +427,7 @@ impl Cutter {
     }
 
     /// An identifier behind a PROCEDURE begins a heading.
-    fn begin_heading(&mut self, alloc: Global, p: Token, t: Token) -> Result<(), SplitFault>
+    fn begin_heading(&mut self, p: Token, t: Token) -> Result<(), SplitFault>
         requires { Ready self.old }
         ensures state { OnOk result (state_view self.new
             ≡ state (self.old.first + self.old.current) (self.old.first + length self.old.streams.items)
@@ -446,16 +446,15 @@ impl Cutter {
             return Err(SplitFault::TooNested);
         }
         send(&mut self.streams, self.first, self.current, t)?;
-        let mut held = Vec::new(alloc);
-        held.push(p)?;
-        held.push(t)?;
-        self.held = held;
+        self.held.clear();
+        self.held.push(p)?;
+        self.held.push(t)?;
         self.phase = Phase::Heading(0);
         Ok(())
     }
 
     /// A token behind a PROCEDURE.
-    fn seen_token(&mut self, alloc: Global, p: Token, t: Token, s: Sort) -> Result<(), SplitFault>
+    fn seen_token(&mut self, p: Token, t: Token, s: Sort) -> Result<(), SplitFault>
         requires { Ready self.old }
         ensures state { OnOk result (state_view self.new
             ≡ state (self.old.first + self.old.current) (self.old.first + length self.old.streams.items)
@@ -469,7 +468,7 @@ impl Cutter {
             (frames_view self.old.first self.old.around.items) p s) result }
     {
         match s {
-            Sort::Word => self.begin_heading(alloc, p, t),
+            Sort::Word => self.begin_heading(p, t),
             _ => {
                 self.amid_token(t, s)?;
                 Ok(())
@@ -491,7 +490,7 @@ impl Cutter {
     {
         match self.phase {
             Phase::Amid => self.amid_token(t, s)?,
-            Phase::Seen(p) => return self.seen_token(alloc, p, t, s),
+            Phase::Seen(p) => return self.seen_token(p, t, s),
             Phase::Heading(brackets) => self.heading_token(alloc, t, s, brackets)?,
             Phase::TwoLeft => self.two_left(t, s)?,
             Phase::OneLeft => self.one_left(t, s)?,

@@ -1,3 +1,4 @@
+use Rattle.std.proofs.lemmas.Result.{IfOk-from_err}
 use Rattle.std.proofs.Common.{◌≡◌, ◌+◌, ◌++◌, ◌∷◌, [], map, ap, sym, ◌∙◌}
 use Rattle.stream_split.specs.Chains.{outer_of, chain_from}
 use Rattle.stream_split.specs.Views.{stream_view}
@@ -15,3 +16,9 @@ loop-preserved c =
           ∙ ap (λ z. chain_from c.loop.counter streams c.args.stream ++ (z ∷ [])) inner ∙ sym (chain_on c.loop.counter streams c.args.stream);
       inner = inner;
     }
+
+pub returns-in_err-push : goal.returns-in_err-push
+returns-in_err-push c = IfOk-from_err c.from_residual.result _ c.from_residual.ensures.0
+
+pub returns-in_err-push-2 : goal.returns-in_err-push-2
+returns-in_err-push-2 c = IfOk-from_err c.from_residual-in_err-push-2.result _ c.from_residual-in_err-push-2.ensures.0
