@@ -35,6 +35,10 @@ module _ (p : Progress) (mods : List ℕ) (count name : ℕ) (kept : IsKept p mo
   })
 
 -- nothing is read of a text that isn't there
+-- a number is put at the end, by its value
+pub pushed_number : (asked new : List (Option ℕ)) (n m : ℕ) → new ≡ asked ++ Some n ∷ [] → n ≡ m → new ≡ asked ++ Some m ∷ []
+pushed_number asked new n m e k = e ∙ ap (λ n. asked ++ Some n ∷ []) k
+
 pub none_read : (holds : Option Files) (p : Progress) (name : ℕ) (asked : List (Option ℕ)) → IsReadOf (HasDefinition holds p.names name) None → asked ≡ p.asked ++ None ∷ []
     → Asks holds p name (progress_of p.names p.found asked)
 none_read holds p name asked read pushed =

@@ -18,6 +18,13 @@ and_true false b e = refl
 
 -- ** Needs
 
+-- what one more text needs
+pub more_needs : (p : Progress) (found : List Found) (i : ℕ) (d : Found) (old new : List (Vec ℕ Global)) (needs : Vec ℕ Global) → i < length found → items_of old ≡ all_needs p (take i found)
+    → new ≡ old ++ needs ∷ [] → needs.items ≡ needs_of p (get_or found i d) → items_of new ≡ all_needs p (take (i + 1) found)
+more_needs p found i d old new needs within so_far pushed is =
+    ap items_of pushed ∙ map-append (λ (v : Vec ℕ Global). v.items) old (needs ∷ []) ∙ ap (λ o. o ++ needs.items ∷ []) so_far ∙ ap (λ n. all_needs p (take i found) ++ n ∷ []) is
+    ∙ sym (map-append (needs_of p) (take i found) (get_or found i d ∷ [])) ∙ ap (all_needs p) (sym (take_more found i d within))
+
 texts-append : (p : Progress) (xs ys : List ℕ) → texts_of_modules p (xs ++ ys) ≡ texts_of_modules p xs ++ texts_of_modules p ys
 texts-append p [] ys = refl
 texts-append p (x ∷ xs) ys = ap (λ n. one_number (text_of_module p x) ++ n) (texts-append p xs ys) ∙ sym (append_assoc (one_number (text_of_module p x)) (texts_of_modules p xs) (texts_of_modules p ys))

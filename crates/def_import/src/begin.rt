@@ -3,7 +3,7 @@ ghost use Rattle.std.specs.Prelude.{◌≡◌, IfOk, Some};
 ghost use Rattle.m2_base.specs.Names.{number_in, standard_names, with_name};
 ghost use Rattle.def_import.specs.Outcomes.{begun};
 
-use crate::progress::Progress;
+use crate::progress::{Parts, Progress};
 use indexmap::IndexSet;
 use m2_base::{Memory, Names};
 use std::alloc::Global;
@@ -15,12 +15,13 @@ pub fn begin(alloc: Global, file: &[u8]) -> Result<(Progress, u32), Memory>
 {
     let mut names = Names::new(alloc)?;
     let number = names.intern(alloc, file)?;
-    let progress = Progress {
+    let parts = Parts {
         names,
         found: Vec::new(alloc),
         modules: IndexSet::new(alloc),
         asked: Vec::new(alloc),
         tokens: 0,
     };
+    let progress = Progress { parts };
     Ok((progress, number))
 }

@@ -1,5 +1,5 @@
 //! Gathering the texts of a unit.
-ghost use Rattle.std.specs.Prelude.{◌≡◌, ◌≤◌, IfErr, IfOk, IsErrOf, None, length, map};
+ghost use Rattle.std.specs.Prelude.{◌≡◌, ◌≤◌, IfErr, IfOk, IsErrOf, None, length};
 ghost use Rattle.m2_io.specs.Causes.{Rose};
 ghost use Rattle.m2_base.specs.Units.{IsIdentifier, IsUnit};
 ghost use Rattle.def_import.specs.Answers.{IsTold, IsWholeWhereSaid, unit_given, wrongs_given};
@@ -14,10 +14,9 @@ use crate::begin::begin;
 use crate::dependencies::dependency_order;
 use crate::faults::GatherFault;
 use crate::files::main_text;
-use crate::found::Found;
 use crate::progress::Progress;
 use crate::wrongs::wrongs_of;
-use m2_base::{Diag, Memory, Text, Texts};
+use m2_base::{Diag, Memory, Texts};
 use m2_io::Shelf;
 use std::alloc::Global;
 
@@ -27,17 +26,6 @@ pub enum Gathered {
     /// Nothing is.
     Whole(Texts),
     Wrong(Texts, Vec<Diag>),
-}
-
-/// The texts of what was read.
-fn texts_of(alloc: Global, found: Vec<Found>) -> Result<Vec<Text>, Memory>
-    ensures { IfOk result (λ texts. texts.items ≡ map (λ f. f.text) found.items) }
-{
-    let mut texts = Vec::new(alloc);
-    for one in found {
-        texts.push(one.text)?;
-    }
-    Ok(texts)
 }
 
 /// The number of the own definition of an implementation module.
@@ -76,8 +64,7 @@ fn finish(alloc: Global, progress: Progress) -> Result<Gathered, Memory>
     let order = dependency_order(alloc, &progress)?;
     let wrongs = wrongs_of(alloc, &progress, &order)?;
     let own = own_text(&progress);
-    let list = texts_of(alloc, progress.found)?;
-    let texts = Texts::new(progress.names, list, order, own);
+    let texts = progress.parts.into_unit(alloc, order, own)?;
     Ok(told(texts, wrongs))
 }
 

@@ -1,15 +1,27 @@
 //! How far the texts of a unit are read.
-ghost use Rattle.std.specs.Prelude.{◌≡◌, ◌<◌, length};
+ghost use Rattle.std.specs.Prelude.{◌≡◌, ◌<◌, IfOk, length, map};
+ghost use Rattle.m2_base.specs.Units.{IsUnit, unit_of};
 ghost use Rattle.def_import.specs.Closure.{next_module as spec_next_module, text_of_module as spec_text_of_module};
 
 use crate::found::Found;
 use indexmap::IndexSet;
-use m2_base::Names;
+use m2_base::{Memory, Names, Text, Texts};
+use std::alloc::Global;
 use std::marker::Model;
 
-/// How far the texts of a unit are read.
-#[derive(Drop)]
-pub struct Progress {
+/// The texts of what was read.
+fn texts_of(alloc: Global, found: Vec<Found>) -> Result<Vec<Text>, Memory>
+    ensures { IfOk result (λ texts. texts.items ≡ map (λ f. f.text) found.items) }
+{
+    let mut texts = Vec::new(alloc);
+    for one in found {
+        texts.push(one.text)?;
+    }
+    Ok(texts)
+}
+
+/// What is kept of the texts that are read so far.
+pub struct Parts {
     pub names: Names,
     /// The texts in the order in which they were found.
     pub found: Vec<Found>,
@@ -21,15 +33,59 @@ pub struct Progress {
     pub tokens: usize,
 }
 
+// (derived, each `?` beside a progress would drop it field by field)
+impl Drop for Parts {
+    fn drop(self) {
+        let Parts {
+            names: _,
+            found: _,
+            modules: _,
+            asked: _,
+            tokens: _,
+        } = self;
+    }
+}
+
+impl Parts {
+    /// The unit of these texts, in this order.
+    pub fn into_unit(
+        self,
+        alloc: Global,
+        order: Vec<u32>,
+        own: Option<u32>,
+    ) -> Result<Texts, Memory>
+        requires { IsUnit (unit_of self.names (map (λ f. f.text) self.found.items) order.items own) }
+        ensures { IfOk result
+            (λ texts. texts ≡ unit_of self.names (map (λ f. f.text) self.found.items) order.items own) }
+    {
+        let Parts {
+            names,
+            found,
+            modules: _,
+            asked: _,
+            tokens: _,
+        } = self;
+        let list = texts_of(alloc, found)?;
+        Ok(Texts::new(names, list, order, own))
+    }
+}
+
+/// How far the texts of a unit are read.
+#[derive(Drop)]
+pub struct Progress {
+    pub parts: Parts,
+}
+
 impl Model for Progress {
     ghost use Rattle.def_import.specs.Closure as closure;
     ghost use Rattle.def_import.specs.Closure.{IsKept, progress_of};
 
     ghost Value = { closure.Progress };
 
-    ghost view = { λ p. progress_of p.names p.found.items p.asked.items };
+    ghost view = { λ p. progress_of p.parts.names p.parts.found.items p.parts.asked.items };
 
-    ghost invariant = { λ p. IsKept (progress_of p.names p.found.items p.asked.items) p.modules.keys p.tokens };
+    ghost invariant = { λ p. IsKept (progress_of p.parts.names p.parts.found.items p.parts.asked.items)
+        p.parts.modules.keys p.parts.tokens };
 }
 
 impl Progress {
@@ -38,21 +94,24 @@ impl Progress {
         ensures texts { result.now ≡ self.now.found }
         ensures few { length result.now < 258 }
     {
-        &self.found
+        &self.parts.found
     }
 
     /// The module that is asked for next.
     pub fn next_module(&self) -> Option<u32>
         ensures { result ≡ spec_next_module self.now }
     {
-        self.modules.get_index(self.asked.len()).copied()
+        self.parts
+            .modules
+            .get_index(self.parts.asked.len())
+            .copied()
     }
 
     /// The number of that module's text, if it was asked for and is there.
     pub fn text_of_module(&self, name: u32) -> Option<u32>
         ensures { result ≡ spec_text_of_module self.now name }
     {
-        let place = self.modules.get_index_of(&name)?;
-        self.asked.get(place).copied().flatten()
+        let place = self.parts.modules.get_index_of(&name)?;
+        self.parts.asked.get(place).copied().flatten()
     }
 }

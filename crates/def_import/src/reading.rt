@@ -121,13 +121,13 @@ impl Progress {
             → Passes self.names self.found definition name bytes.now limit }
         ensures fault { IfErr result IsTextFault }
     {
-        let found = read_text(alloc, &mut self.names, definition, name, bytes)?;
-        self.tokens += found.count();
-        if self.tokens > MOST_UNIT_TOKENS {
+        let found = read_text(alloc, &mut self.parts.names, definition, name, bytes)?;
+        self.parts.tokens += found.count();
+        if self.parts.tokens > MOST_UNIT_TOKENS {
             return Err(GatherFault::TooManyUnitTokens);
         }
-        name_modules(&mut self.modules, &found)?;
-        self.found.push(found)?;
+        name_modules(&mut self.parts.modules, &found)?;
+        self.parts.found.push(found)?;
         Ok(self)
     }
 
@@ -148,14 +148,14 @@ impl Progress {
         ensures failed { IsErrOf result GatherFault.ReadFault → Rose (H.faults shelf.old) (H.faults shelf.new) }
         ensures fault { IfErr result IsAskFault }
     {
-        match definition_text(alloc, shelf, &self.names, name)? {
+        match definition_text(alloc, shelf, &self.parts.names, name)? {
             None => {
-                self.asked.push(None)?;
+                self.parts.asked.push(None)?;
                 Ok(self)
             }
             Some(bytes) => {
-                let number = self.found.len() as u32;
-                self.asked.push(Some(number))?;
+                let number = self.parts.found.len() as u32;
+                self.parts.asked.push(Some(number))?;
                 self.read(alloc, true, name, &bytes)
             }
         }

@@ -1,3 +1,4 @@
+use Rattle.std.proofs.lemmas.Result.{IfOk-from_err}
 use Rattle.std.proofs.Common.{◌≡◌, ◌≤◌, Some, None, length, sym, ◌∙◌, ap, subst, arith, List, ℕ, drop, rules}
 use Rattle.std.proofs.lemmas.List.{length-map}
 use Rattle.def_import.specs.Dependencies.{AreStruck, all_needs, first_free, items_of, needs_of}
@@ -42,3 +43,9 @@ loop-preserved c =
           still_struck p c.loop.taken.items c.deref.result.now c.in-Some.text c.loop.all.len c.loop.all.items c.deref_mut.result.now c.first_free.new.all c.deref.ensures.value c.deref_mut.ensures.value
           c.loop.all.ok.0 c.loop.invariant.struck c.first_free.ensures.struck c.push.new.self.items c.in_ok-push.ensures.items;
     }
+
+pub returns-in_err-all : goal.returns-in_err-all
+returns-in_err-all c = IfOk-from_err c.from_residual.result _ c.from_residual.ensures.0
+
+pub returns-in_err-push : goal.returns-in_err-push
+returns-in_err-push c = IfOk-from_err c.from_residual-in_err-push.result _ c.from_residual-in_err-push.ensures.0

@@ -1,3 +1,4 @@
+use Rattle.std.proofs.lemmas.Result.{IfOk-from_err}
 use Rattle.std.proofs.Common.{◌≡◌, ◌<◌, List, ap, sym, ◌∙◌, ◌++◌, subst, arith, get_or, take, length}
 use Rattle.m2_base.specs.declared.trees.Ident.{Ident}
 use Rattle.def_import.specs.Closure.{names_of, text_of_module}
@@ -15,3 +16,6 @@ loop-import-preserved c =
     subst (λ (is : List Ident). c.text_of_module.result ≡ text_of_module p (get_or is i (record { name = 0; at = 0 })).name) c.imports-import-items.ensures c.text_of_module.ensures in
     c.in_ok-add_need.ensures ∙ ap (λ n. n ++ one_number c.text_of_module.result) c.loop-import.invariant
     ∙ ap (λ o. texts_of_modules p (names_of (take i imports)) ++ one_number o) text ∙ sym (needs_more p imports i (record { name = 0; at = 0 }) within)
+
+pub returns-in_err-add_need : goal.returns-in_err-add_need
+returns-in_err-add_need c = IfOk-from_err c.from_residual.result _ c.from_residual.ensures.0

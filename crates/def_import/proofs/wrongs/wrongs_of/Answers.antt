@@ -1,3 +1,4 @@
+use Rattle.std.proofs.lemmas.Result.{IfOk-from_err}
 use Rattle.std.proofs.Common.{◌≡◌, ◌<◌, List, ap, arith, get_or, length, ◌++◌, ◌∙◌}
 use Rattle.def_import.specs.Closure.{Found}
 use Rattle.def_import.specs.Wrongs.{wrongs_in}
@@ -13,3 +14,6 @@ loop-text-preserved c =
     c.found-item.is ∙ ap (λ (all : List Found). get_or all c.loop-text.text c.found-item.result) c.texts-found-items.ensures.texts in
     wrongs_more p order p.found c.loop-text.text c.found-item.result c.loop-text.wrongs.items c.note_text.new.wrongs.items within c.loop-text.invariant
     (c.in_ok-note_text.ensures ∙ ap (λ f. c.loop-text.wrongs.items ++ wrongs_in p order c.loop-text.text f) one)
+
+pub returns-in_err-note_text : goal.returns-in_err-note_text
+returns-in_err-note_text c = IfOk-from_err c.from_residual.result _ c.from_residual.ensures.0
