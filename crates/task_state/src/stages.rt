@@ -21,7 +21,7 @@ pub(crate) struct Begun {
     pub stating: Option<Stating>,
 }
 
-// (derived, it would be proved anew, with all trees, in each crate above that drops a task)
+// (derived, it would be proved anew, with all that it owns, in each crate above that drops a task)
 impl Drop for Begun {
     fn drop(self) {
         let Begun {

@@ -42,15 +42,10 @@ impl Drop for Stream {
 }
 
 /// Names of modules, or after FROM names of that module.
+#[derive(Drop)]
 pub struct Import {
     pub from: Option<Ident>,
     pub names: Vec<Ident>,
-}
-
-impl Drop for Import {
-    fn drop(self) {
-        let Import { from: _, names: _ } = self;
-    }
 }
 
 /// A declaration.
