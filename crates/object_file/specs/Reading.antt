@@ -74,6 +74,17 @@ procedure_at exports before bytes = do
     code.1,
   )
 
+-- the first fields behind the version: the name, the cells, and those of the object's own variables
+unfoldable pub front_at : List ℕ → Result ((List ℕ × ℕ × ℕ) × List ℕ) Bad
+front_at bytes = do
+  name ← text_at bytes
+  _ ← valid_at (is_identifier name.0) bytes
+  cells ← number_at name.1
+  _ ← valid_at (is_cells cells.0) name.1
+  own_cells ← number_at cells.1
+  _ ← valid_at (is_own_cells cells.0 own_cells.0) cells.1
+  Ok ((name.0, cells.0, own_cells.0), own_cells.1)
+
 -- the fields behind the version
 unfoldable pub fields_at : (version : ℕ) → List ℕ → Result (Contents × List ℕ) Bad
 fields_at version bytes = do

@@ -4,7 +4,7 @@ ghost use Rattle.object_file.specs.Fields.{Gives, many_at, counted_at};
 ghost use Rattle.object_file.specs.ObjectFormat.{any, version_near as spec_near, key_length as spec_key_length};
 ghost use Rattle.object_file.specs.ObjectFormat.{is_count as spec_count};
 ghost use Rattle.object_file.specs.Reading.{export_at, heading_at, import_at, frame_at, procedure_at};
-ghost use Rattle.object_file.specs.Reading.{fields_at, object_at, whole_at};
+ghost use Rattle.object_file.specs.Reading.{front_at, fields_at, object_at, whole_at};
 ghost use Rattle.object_file.specs.Views.{heading_of, keyed_of, procedure_of, contents_of};
 
 use crate::conditions::{
@@ -209,10 +209,10 @@ fn procedures(alloc: Global, exports: &Exports, bytes: &mut &[u8]) -> Result<Vec
     procedures_of(alloc, exports, count, bytes)
 }
 
-/// The fields behind the version, and what follows them.
-#[tactic(auto, unfolding(crate::specs::Reading::fields_at))]
-fn parts(alloc: Global, version: u32, bytes: &mut &[u8]) -> Result<Parts, Stop>
-    ensures { Gives (λ x. (contents_of x, bytes.new.now)) result (fields_at version bytes.old.now) }
+/// The name of an object, its cells, and those of its own variables.
+#[tactic(auto, unfolding(crate::specs::Reading::front_at))]
+fn front(alloc: Global, bytes: &mut &[u8]) -> Result<(Vec<u8>, u32, u32), Stop>
+    ensures { Gives (λ x. ((x.0.items, x.1, x.2), bytes.new.now)) result (front_at bytes.old.now) }
 {
     let at = *bytes;
     let name = text(alloc, bytes)?;
@@ -223,6 +223,14 @@ fn parts(alloc: Global, version: u32, bytes: &mut &[u8]) -> Result<Parts, Stop>
     let at = *bytes;
     let own_cells = number(bytes)?;
     valid(own_cells <= cells, at)?;
+    Ok((name, cells, own_cells))
+}
+
+/// The fields behind the version, and what follows them.
+fn parts(alloc: Global, version: u32, bytes: &mut &[u8]) -> Result<Parts, Stop>
+    ensures { Gives (λ x. (contents_of x, bytes.new.now)) result (fields_at version bytes.old.now) }
+{
+    let (name, cells, own_cells) = front(alloc, bytes)?;
     let key = raw(alloc, key_length(version), bytes)?;
     let exports = exports(alloc, bytes)?;
     let imports = imports(alloc, version, bytes)?;
