@@ -1,6 +1,6 @@
 -- Cells, addresses, and the room that a state has: over plain data.
-use Rattle.std.proofs.Common.{◌≡◌, ℕ, ◌+◌, ◌-◌, ◌*◌, ◌^◌, ◌<◌, ◌≤◌, ◌&&◌, ◌==◌, Bool, true, false, List, length, drop, ltb, leb, Some, None, Option, refl, sym, ap, ◌∙◌, subst, arith, ℤ, pos, negsuc, ◌+ℤ◌, ◌≤ℤ◌, ◌<ℤ◌, FitsSigned, w64, to_z, of_z}
-use Rattle.std.specs.Prelude.{slice_set, vec_capacity, IfSome, if◌then◌else◌}
+use Rattle.std.proofs.Common.{◌≡◌, ℕ, ◌+◌, ◌-◌, ◌*◌, ◌^◌, ◌<◌, ◌≤◌, ◌&&◌, ◌==◌, Bool, true, false, List, length, drop, ltb, leb, Some, None, Option, refl, sym, ap, ◌∙◌, subst, arith, ℤ, pos, negsuc, ◌+ℤ◌, ◌≤ℤ◌, FitsSigned, w64, to_z, of_z}
+use Rattle.std.specs.Prelude.{slice_set, IfSome, if◌then◌else◌}
 use Rattle.std.specs.List.{copy_within}
 use Rattle.std.specs.Vec.{with_item, with_items}
 use Rattle.std.specs.declared.alloc.Global.{Global}
@@ -19,8 +19,8 @@ use Rattle.stack_machine.specs.declared.trap.Trap.TheVariants as traps
 use Rattle.stack_machine.specs.Able.{HasRoom, CanDo, Comes}
 use Rattle.stack_machine.specs.Numbers.{below, count_of}
 use Rattle.stack_machine.specs.Operands.{top_of, without}
-use Rattle.stack_machine.specs.State.{State, state_of}
-use Rattle.stack_machine.specs.Step.{Next, Goes, Halts, Traps, NoFrame, does, empty, nothing, part_at, cell_at, leaves, allocated, cleared, source_at, cell_of, copied, open_copied, entered, called, size_of, number_out}
+use Rattle.stack_machine.specs.State.{State}
+use Rattle.stack_machine.specs.Step.{Next, Goes, Traps, NoFrame, does, empty, nothing, part_at, cell_at, leaves, allocated, cleared, source_at, cell_of, copied, open_copied, entered, called, size_of, number_out}
 
 -- ---- what a step comes to
 

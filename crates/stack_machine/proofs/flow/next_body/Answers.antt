@@ -1,4 +1,4 @@
-use Rattle.std.proofs.Common.{◌≡◌, ◌∙◌, ℕ, Option, Some, ap, subst, sym, arith}
+use Rattle.std.proofs.Common.{◌∙◌, ℕ, Option, Some, ap, subst, sym, arith}
 use Rattle.stack_machine.specs.declared.code.Routine.{Routine}
 use Rattle.stack_machine.specs.Able.{Comes}
 use Rattle.stack_machine.specs.Ready.{IsSmall}

@@ -4,7 +4,7 @@ use Rattle.std.specs.Vec.{with_items}
 use Rattle.stack_machine.specs.Able.{Comes}
 use Rattle.stack_machine.specs.Operands.{top_of}
 use Rattle.stack_machine.specs.State.{state_of}
-use Rattle.stack_machine.specs.Step.{Next, leaves, part_at}
+use Rattle.stack_machine.specs.Step.{Next}
 use Rattle.stack_machine.proofs.Cells.{able_cells, comes_to, moves, moves_none, moves_nothing, moves_nowhere, part_told, part_within, refilled, short_as}
 use Rattle.stack_machine.proofs.memory.copy_cells.Goals as goal
 

@@ -1,9 +1,8 @@
-use Rattle.std.proofs.Common.{◌≡◌, ◌∙◌, ◌+◌, List, ℤ, length, ap, refl, arith, pos}
+use Rattle.std.proofs.Common.{◌≡◌, ◌∙◌, ◌+◌, List, ℤ, length, ap, arith, pos}
 use Rattle.std.specs.List.{copy_within}
 use Rattle.std.specs.Prelude.{slice_set}
 use Rattle.std.specs.Vec.{with_items}
 use Rattle.stack_machine.specs.State.{state_of}
-use Rattle.std.proofs.lemmas.List.{length-set}
 use Rattle.stack_machine.proofs.Cells.{copies, refilled, room_to}
 use Rattle.stack_machine.proofs.memory.copy_open.Goals as goal
 

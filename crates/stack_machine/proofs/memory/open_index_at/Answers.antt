@@ -1,4 +1,4 @@
-use Rattle.std.proofs.Common.{◌≡◌, ◌∙◌, ◌*◌, ◌+ℤ◌, ℕ, Option, Some, length, ap, refl, subst, sym, pos, ℤ, w64, to_z, of_z}
+use Rattle.std.proofs.Common.{◌≡◌, ◌∙◌, ◌*◌, ◌+ℤ◌, ℕ, length, ap, refl, subst, sym, pos, ℤ, w64, to_z, of_z}
 use Rattle.std.proofs.lemmas.Int.{to_z-of_z}
 use Rattle.stack_machine.specs.Able.{Comes}
 use Rattle.stack_machine.specs.Numbers.{below}

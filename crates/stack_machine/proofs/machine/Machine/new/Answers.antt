@@ -1,4 +1,4 @@
-use Rattle.std.proofs.Common.{◌≡◌, ◌≤◌, List, ap, ◌∙◌, subst, sym, arith}
+use Rattle.std.proofs.Common.{List, ap, ◌∙◌, subst, sym, arith}
 use Rattle.std.specs.Prelude.{slice_get}
 use Rattle.object_file.specs.Contents.{Contents}
 use Rattle.object_file.specs.Programs.{IsProgram}
