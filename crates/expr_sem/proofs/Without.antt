@@ -1,5 +1,5 @@
 -- Cases of operators and sets by exclusion.
-use Rattle.std.proofs.Common.{◌≡◌, ◌∷◌, [], ℤ, pos, w64, arith, refl}
+use Rattle.std.proofs.Common.{◌≡◌, ◌∙◌, ◌∷◌, [], ℤ, pos, w64, ap, arith, refl, sym}
 use Rattle.std.specs.Prelude.{FitsSigned}
 use Rattle.std.proofs.lemmas.Int.{ints}
 use Rattle.m2_base.specs.Rows.{IsValue}
@@ -19,6 +19,10 @@ use Rattle.code_form.specs.declared.instr.Instr.TheVariants.{Push}
 pub made_without : (o : Operand) (p q : Part) → ((t : Place) → o ≡ Computed t → ⊥) → made o p ≡ made o q
 made_without (Computed t) p q other = absurd (other t refl)
 made_without o p q other = refl
+
+-- of a computed one the code counts
+pub made_computed : (o : Operand) (t : Place) (p : Part) → o ≡ Computed t → coded o p ≡ made o p
+made_computed o t p e = ap (λ (x : Operand). coded x p) e ∙ ap (λ (x : Operand). made x p) (sym e)
 
 pub made_other : (o : Operand) (p : Part) → ((t : Place) → o ≡ Computed t → ⊥) → ((t : Place) (v : ℤ) → o ≡ Constant t v → ⊥) → in_error ≡ made o p
 made_other (Computed t) p computed constant = absurd (computed t refl)

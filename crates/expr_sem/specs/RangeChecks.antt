@@ -1,8 +1,7 @@
--- The check against a range, where there is one.
-use Rattle.std.specs.Prelude.{ℤ, List, [], ◌∷◌, Option, Some, None}
+-- An instruction, as the check against a range, where there is one.
+use Rattle.std.specs.Prelude.{List, [], ◌∷◌, Option, Some, None}
 use Rattle.code_form.specs.declared.instr.Instr.{Instr}
-use Rattle.code_form.specs.declared.instr.Instr.TheVariants.{Check}
 
-abbrev pub checks_of : Option (ℤ × ℤ) → List Instr
-checks_of None = []
-checks_of (Some ends) = Check ends.0 ends.1 ∷ []
+abbrev pub instrs_if : Option Instr → List Instr
+instrs_if None = []
+instrs_if (Some i) = i ∷ []

@@ -10,6 +10,7 @@ ghost use Rattle.expr_sem.specs.Codings.{Coding};
 ghost use Rattle.expr_sem.specs.ExpressionParts.{all_passed as spec_all, behind_first as spec_behind};
 ghost use Rattle.expr_sem.specs.declared.fragments.Node.{Node};
 
+use crate::answers::passed_as;
 use crate::arguments::Parameter;
 use crate::fragments::{Fragment, Fragments};
 use m2_base::{Ask, Memory};
@@ -53,6 +54,5 @@ pub(crate) fn joined(
     let Some(last) = argument else {
         return Ok(Ask::Known(None));
     };
-    let both = fragments.then(first, last)?;
-    Ok(Ask::Known(Some(both)))
+    passed_as(fragments.then(first, last))
 }

@@ -18,6 +18,7 @@ ghost use Rattle.expr_sem.specs.declared.fragments.Node.{Node};
 ghost use Rattle.type_rules.specs.Scenes.{IsThere};
 ghost use Rattle.type_rules.specs.Sites.{SuitsSite};
 
+use crate::answers::passed_as;
 use crate::chains::instr_behind;
 use crate::coded::{Coded, Placed};
 use crate::coder::Coder;
@@ -84,8 +85,7 @@ impl<S: Scopes> Coder<'_, '_, S> {
             Operand::StringConstant(name, _) => {
                 let size = asked!(size_of(self.scopes, self.site.around, of));
                 let bytes = characters(self.site, name)?;
-                let copy = self.fragments.string_copy(size as u32, bytes)?;
-                Ok(Ask::Known(Some(copy)))
+                passed_as(self.fragments.string_copy(size as u32, bytes))
             }
             _ => {
                 let code = analysed!(fitted_code(
@@ -150,8 +150,7 @@ impl<S: Scopes> Coder<'_, '_, S> {
         }
         if asked!(same(self.scopes, self.site.around, element, want)) {
             let high = analysed!(high_code(self.scopes, self.site, x.coded, kind, self.fragments));
-            let both = self.fragments.then(x.coded.code, high)?;
-            return Ok(Ask::Known(Some(both)));
+            return passed_as(self.fragments.then(x.coded.code, high));
         }
         refuse_argument(self.site, x.at, Diagnostic::WrongArgument, self.notes)
     }
@@ -198,8 +197,8 @@ impl<S: Scopes> Coder<'_, '_, S> {
             Operand::StringConstant(name, length) => {
                 if asked!(same(self.scopes, self.site.around, want, CHARACTER)) {
                     let address = string_value(self.site, name, self.fragments)?;
-                    let code = instr_behind(address, push_length(length), self.fragments)?;
-                    return Ok(Ask::Known(Some(code)));
+                    let last = push_length(length);
+                    return passed_as(instr_behind(address, last, self.fragments));
                 }
                 refuse_argument(self.site, x.at, Diagnostic::WrongArgument, self.notes)
             }

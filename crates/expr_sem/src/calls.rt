@@ -26,6 +26,7 @@ ghost use Rattle.expr_sem.specs.declared.fragments.Node.{Node};
 ghost use Rattle.type_rules.specs.Scenes.{IsThere, block_of};
 ghost use Rattle.type_rules.specs.Sites.{SuitsSite};
 
+use crate::answers::answered_as;
 use crate::arguments::Parameter;
 use crate::chains::{after_both, instr_behind};
 use crate::coded::Coded;
@@ -319,8 +320,10 @@ impl<S: Scopes> Coder<'_, '_, S> {
             takes,
             leaves: result_cells(callee.result) as u64,
         })?;
-        let code = after_both(self.fragments, callee.before, args, call)?;
-        Ok(Ask::Known(Coded::new(operand, code)))
+        answered_as(
+            operand,
+            after_both(self.fragments, callee.before, args, call),
+        )
     }
 
     /// The call, once its arguments are there. Without one of them it is in error,

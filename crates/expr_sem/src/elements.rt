@@ -29,7 +29,7 @@ ghost use Rattle.block_code.specs.Parts.{plain, ◌⨟◌};
 ghost use Rattle.expr_sem.specs.Selections.{pointed as spec_pointed};
 ghost use Rattle.block_code.specs.Values.{assigned_to as spec_assigned};
 
-use crate::addressed::variable_at;
+use crate::answers::answered_as;
 use crate::chains::{applied, pair};
 use crate::coded::{Coded, Placed};
 use crate::coder::Coder;
@@ -91,7 +91,7 @@ fn pointed<S: Scopes>(
     if asked!(is_broken(scopes, site.around, of)) {
         return Ok(Ask::Known(Coded::in_error()));
     }
-    variable_at(of, target_code(code, fragments))
+    answered_as(Operand::Variable(of), target_code(code, fragments))
 }
 
 impl<S: Scopes> Coder<'_, '_, S> {
@@ -221,7 +221,10 @@ impl<S: Scopes> Coder<'_, '_, S> {
         let (ends, size) = asked!(extent(self.scopes, self.site.around, indices, of));
         let find = index_instr(ends, size)?;
         let value = analysed!(value_code(self.scopes, self.site, index, self.fragments));
-        variable_at(of, applied(self.fragments, x.code, value, find))
+        answered_as(
+            Operand::Variable(of),
+            applied(self.fragments, x.code, value, find),
+        )
     }
 }
 
@@ -288,7 +291,10 @@ impl<S: Scopes> Coder<'_, '_, S> {
         }
         let size = asked!(cells_of(self.scopes, self.site.around, of));
         let value = analysed!(value_code(self.scopes, self.site, index, self.fragments));
-        variable_at(of, open_code(x, value, size, self.fragments))
+        answered_as(
+            Operand::Variable(of),
+            open_code(x, value, size, self.fragments),
+        )
     }
 
     /// The element of an array by one index: the index type takes it, of an open array a CARDINAL. `first` is the

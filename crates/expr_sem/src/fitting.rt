@@ -8,7 +8,7 @@ ghost use Rattle.expr_sem.specs.Codings.{Coding, IsCoded, IsFragment, coded_in};
 ghost use Rattle.block_code.specs.Fitting.{check_of as spec_check_of, fit_check as spec_fit_check};
 ghost use Rattle.block_code.specs.Fitting.{fit_of as spec_fit_of, fitted_code as spec_fitted};
 ghost use Rattle.expr_sem.specs.Fragments.{part};
-ghost use Rattle.expr_sem.specs.RangeChecks.{checks_of};
+ghost use Rattle.expr_sem.specs.RangeChecks.{instrs_if};
 ghost use Rattle.type_rules.specs.Scenes.{IsThere};
 ghost use Rattle.type_rules.specs.Sites.{SuitsSite};
 
@@ -20,15 +20,15 @@ use code_form::Instr;
 use m2_base::{Ask, Memory, Operand, Place, Scopes, Site};
 use type_rules::range_of;
 
-/// The range against which a value of the first range is checked: the second, where the first isn't within it.
-fn ends_to_check(from: Option<(i64, i64)>, to: Option<(i64, i64)>) -> Option<(i64, i64)>
-    ensures { checks_of result
+/// The check against the second range of a value of the first, where that isn't within it.
+pub(crate) fn range_check(from: Option<(i64, i64)>, to: Option<(i64, i64)>) -> Option<Instr>
+    ensures { instrs_if result
         ≡ spec_check_of (option_map (λ ends. range ends.0 ends.1) from) (option_map (λ ends. range ends.0 ends.1) to) }
 {
     let (low, high) = to?;
     match from {
         Some((least, greatest)) if low <= least && greatest <= high => None,
-        _ => to,
+        _ => Some(Instr::Check(low, high)),
     }
 }
 
@@ -48,8 +48,8 @@ fn fit_check<S: Scopes>(
 {
     let values = asked!(range_of(scopes, site.around, from));
     let wanted = asked!(range_of(scopes, site.around, to));
-    match ends_to_check(values, wanted) {
-        Some((low, high)) => answered(fragments.one(Instr::Check(low, high))),
+    match range_check(values, wanted) {
+        Some(check) => answered(fragments.one(check)),
         None => Ok(Ask::Known(Fragment::Nothing)),
     }
 }

@@ -82,7 +82,6 @@ macro_rules! analysed {
     };
 }
 
-mod addressed;
 mod answers;
 mod appending;
 mod argument_codes;

@@ -19,7 +19,7 @@ ghost use Rattle.type_rules.specs.Asks.{Reads, WhereKnown, WhereWaiting};
 ghost use Rattle.type_rules.specs.Scenes.{IsThere, WhereTold};
 ghost use Rattle.type_rules.specs.Sites.{SuitsSite, context_of};
 
-use crate::answers::answered;
+use crate::answers::{answered, answered_as};
 use crate::chains::{applied, instr_behind};
 use crate::coded::{Coded, Placed};
 use crate::coder::Coder;
@@ -177,8 +177,7 @@ impl<S: Scopes> Coder<'_, '_, S> {
             return Ok(Ask::Known(made(given, Fragment::Nothing)));
         };
         let value = analysed!(value_code(self.scopes, self.site, x, self.fragments));
-        let code = signed(self.fragments, op, value)?;
-        Ok(Ask::Known(made(given, code)))
+        answered_as(given, signed(self.fragments, op, value))
     }
 }
 

@@ -18,7 +18,7 @@ ghost use Rattle.block_code.specs.RecordFields.{select_field as spec_field};
 ghost use Rattle.expr_sem.specs.Selections.{IsField, with_number as spec_number};
 ghost use Rattle.block_code.specs.Variables.{entry_coded as spec_entry};
 
-use crate::addressed::variable_at;
+use crate::answers::answered_as;
 use crate::coded::Coded;
 use crate::coder::Coder;
 use crate::fragments::{Fragment, Fragments};
@@ -59,7 +59,10 @@ impl<S: Scopes> Coder<'_, '_, S> {
         if asked!(is_broken(self.scopes, self.site.around, of)) {
             return Ok(Ask::Known(Coded::in_error()));
         }
-        variable_at(of, code_behind(code, offset, self.fragments))
+        answered_as(
+            Operand::Variable(of),
+            code_behind(code, offset, self.fragments),
+        )
     }
 }
 

@@ -12,6 +12,7 @@ ghost use Rattle.type_rules.specs.Asks.{Reads, WhereKnown, WhereWaiting};
 ghost use Rattle.type_rules.specs.Scenes.{IsThere, Suits, WhereTold, scene_of};
 ghost use Rattle.type_rules.specs.Sites.{SuitsSite};
 
+use crate::answers::answered_as;
 use crate::chains::{instr_behind, pair};
 use crate::coded::Coded;
 use crate::elements::{cells_of, target_named};
@@ -66,8 +67,7 @@ pub fn new_room<S: Scopes>(
         return Ok(Ask::Known(Coded::in_error()));
     }
     let size = asked!(cells_of(scopes, site.around, of));
-    let code = instr_behind(x.code, Instr::New(size), fragments)?;
-    Ok(Ask::Known(Coded::new(NO_VALUE, code)))
+    answered_as(NO_VALUE, instr_behind(x.code, Instr::New(size), fragments))
 }
 
 /// DISPOSE of a pointer, unless it is in error.
@@ -81,6 +81,5 @@ pub fn disposed(x: Coded, fragments: &mut Fragments) -> Result<Ask<Coded>, Memor
         return Ok(Ask::Known(Coded::in_error()));
     }
     let stored = pair(Instr::Push(0), Instr::Store, fragments)?;
-    let code = fragments.then(x.code, stored)?;
-    Ok(Ask::Known(Coded::new(NO_VALUE, code)))
+    answered_as(NO_VALUE, fragments.then(x.code, stored))
 }

@@ -17,6 +17,7 @@ ghost use Rattle.type_rules.specs.Asks.{Reads, WhereKnown, WhereWaiting};
 ghost use Rattle.type_rules.specs.Scenes.{IsThere, WhereTold};
 ghost use Rattle.type_rules.specs.Sites.{SuitsSite, context_of};
 
+use crate::answers::answered_as;
 use crate::chains::{after_both, pair};
 use crate::coded::Coded;
 use crate::coder::Coder;
@@ -141,8 +142,7 @@ pub fn set_coded(of: Place, es: Elements, fragments: &mut Fragments) -> Result<A
         Operand::InError => Ok(Ask::Known(Coded::in_error())),
         _ => {
             let empty = fragments.one(Instr::Push(0))?;
-            let code = fragments.then(empty, es.code)?;
-            Ok(Ask::Known(Coded::new(Operand::Computed(of), code)))
+            answered_as(Operand::Computed(of), fragments.then(empty, es.code))
         }
     }
 }

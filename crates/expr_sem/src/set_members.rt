@@ -9,6 +9,7 @@ ghost use Rattle.block_code.specs.StandardProcedures.{set_member as spec_member}
 ghost use Rattle.expr_sem.specs.declared.fragments.Node.{Node};
 ghost use Rattle.type_rules.specs.Sites.{SuitsSite};
 
+use crate::answers::answered_as;
 use crate::coded::{Coded, Placed};
 use crate::coder::Coder;
 use crate::fitting::fitted_code;
@@ -77,7 +78,6 @@ impl<S: Scopes> Coder<'_, '_, S> {
             first: Instr::Bit,
             second: Some(second),
         };
-        let code = updated(x.code, element, change, self.fragments)?;
-        Ok(Ask::Known(Coded::new(NO_VALUE, code)))
+        answered_as(NO_VALUE, updated(x.code, element, change, self.fragments))
     }
 }

@@ -19,14 +19,14 @@ ghost use Rattle.expr_sem.specs.Kinds.{IsKindHere};
 ghost use Rattle.block_code.specs.Operators.{made as spec_made};
 ghost use Rattle.block_code.specs.StandardFunctions.{as_variable as spec_variable, function_of_one as spec_one};
 ghost use Rattle.block_code.specs.StandardFunctions.{high_code as spec_high};
-ghost use Rattle.block_code.specs.StandardFunctions.{high_of_range as spec_range, high_of_variable as spec_high_variable};
-ghost use Rattle.block_code.specs.StandardFunctions.{};
+ghost use Rattle.block_code.specs.StandardFunctions.{high_of_range as spec_range};
+ghost use Rattle.block_code.specs.StandardFunctions.{high_of_variable as spec_high_variable};
 ghost use Rattle.block_code.specs.StandardFunctions.{size_code as spec_size};
 ghost use Rattle.expr_sem.specs.declared.fragments.Node.{Node};
 ghost use Rattle.type_rules.specs.Sites.{SuitsSite};
 
 use crate::answers::answered;
-use crate::coded::Coded;
+use crate::coded::{Coded, Placed};
 use crate::coder::Coder;
 use crate::elements::high_or_none;
 use crate::fragments::{Fragment, Fragments};
@@ -98,63 +98,61 @@ pub fn has_small_ordinal(place: Place)
     ensures { place.ordinal < 2 ^ 32 }
 {}
 
-impl<S: Scopes> Coder<'_, '_, S> {
-    /// HIGH of a variable, by the meaning of its type.
-    fn high(&mut self, at: u32, x: Coded) -> Result<Ask<Coded>, Memory>
-        requires suits { SuitsPlace S.state self.old }
-        requires x { IsCoded (frame_of S.state self.old) (nodes_of self.old) x }
-        ensures keeps { Keeps self.old self.new }
-        ensures codes { Codes S.state self.old self.new result IsCoded coded_in
-            (λ c. and_then (spec_variable c at (coded_in (nodes_of self.old) x)) (spec_high_variable c at)) }
-    {
-        let v = analysed!(as_variable(self.site, at, x, self.notes));
-        if is_bad(v.operand) {
-            return Ok(Ask::Known(Coded::in_error()));
-        }
-        let (place, kind) = asked!(stand(self.scopes, self.site.around, operand_type(&v.operand)));
-        has_small_ordinal(place);
-        match kind {
-            RowMeaning::Array(index, _, _) => {
-                if asked!(is_broken(self.scopes, self.site.around, index)) {
-                    return Ok(Ask::Known(Coded::in_error()));
-                }
-                high_computed(self.scopes, self.site, v, kind, self.fragments)
+/// HIGH of a variable, by the meaning of its type.
+fn high_coded<S: Scopes>(
+    scopes: &mut S,
+    site: &Site,
+    x: Placed,
+    fragments: &mut Fragments,
+    notes: &mut Notes,
+) -> Result<Ask<Coded>, Memory>
+    requires suits { SuitsSite (S.state scopes.old).frame site.now }
+    requires x { IsCoded (S.state scopes.old).frame fragments.old.nodes.items x.coded }
+    ensures { Coding (S.state scopes.old) (S.state scopes.new) notes.old notes.new fragments.old.nodes.items
+        fragments.new.nodes.items site.now result IsCoded coded_in (λ c. and_then
+        (spec_variable c x.at (coded_in fragments.old.nodes.items x.coded)) (spec_high_variable c x.at)) }
+{
+    let v = analysed!(as_variable(site, x.at, x.coded, notes));
+    if is_bad(v.operand) {
+        return Ok(Ask::Known(Coded::in_error()));
+    }
+    let (place, kind) = asked!(stand(scopes, site.around, operand_type(&v.operand)));
+    has_small_ordinal(place);
+    match kind {
+        RowMeaning::Array(index, _, _) => {
+            if asked!(is_broken(scopes, site.around, index)) {
+                return Ok(Ask::Known(Coded::in_error()));
             }
-            RowMeaning::OpenArray(_) => high_computed(
-                self.scopes,
-                self.site,
-                v,
-                kind,
-                self.fragments,
-            ),
-            _ => refused(self.site, at, Diagnostic::WrongArgument, self.notes),
+            high_computed(scopes, site, v, kind, fragments)
         }
+        RowMeaning::OpenArray(_) => high_computed(scopes, site, v, kind, fragments),
+        _ => refused(site, x.at, Diagnostic::WrongArgument, notes),
     }
+}
 
-    /// SIZE.
-    fn size(&mut self, at: u32, x: Coded) -> Result<Ask<Coded>, Memory>
-        requires suits { SuitsPlace S.state self.old }
-        requires x { IsCoded (frame_of S.state self.old) (nodes_of self.old) x }
-        ensures keeps { Keeps self.old self.new }
-        ensures codes { Codes S.state self.old self.new result IsCoded coded_in
-            (λ c. and_then (of_type c functions.Size at x.operand)
-            (λ r. gives (spec_made r (spec_size c (coded_in (nodes_of self.old) x))))) }
-    {
-        let argument = Argument {
-            at,
-            operand: x.operand,
-        };
-        let given = analysed!(of_type_noted(
-            self.scopes,
-            self.site,
-            TypeFunction::Size,
-            argument,
-            self.notes
-        ));
-        let size = asked!(size_of(self.scopes, self.site.around, operand_type(&x.operand)));
-        let code = self.fragments.one(Instr::Push(size as i64))?;
-        Ok(Ask::Known(made(given, code)))
-    }
+/// SIZE.
+fn size_coded<S: Scopes>(
+    scopes: &mut S,
+    site: &Site,
+    x: Placed,
+    fragments: &mut Fragments,
+    notes: &mut Notes,
+) -> Result<Ask<Coded>, Memory>
+    requires suits { SuitsSite (S.state scopes.old).frame site.now }
+    requires x { IsCoded (S.state scopes.old).frame fragments.old.nodes.items x.coded }
+    ensures { Coding (S.state scopes.old) (S.state scopes.new) notes.old notes.new fragments.old.nodes.items
+        fragments.new.nodes.items site.now result IsCoded coded_in
+        (λ c. and_then (of_type c functions.Size x.at x.coded.operand)
+        (λ r. gives (spec_made r (spec_size c (coded_in fragments.old.nodes.items x.coded))))) }
+{
+    let argument = Argument {
+        at: x.at,
+        operand: x.coded.operand,
+    };
+    let given = analysed!(of_type_noted(scopes, site, TypeFunction::Size, argument, notes));
+    let size = asked!(size_of(scopes, site.around, operand_type(&x.coded.operand)));
+    let code = fragments.one(Instr::Push(size as i64))?;
+    Ok(Ask::Known(made(given, code)))
 }
 
 /// What MIN or MAX gives of a type, which needs no code.
@@ -214,8 +212,20 @@ impl<S: Scopes> Coder<'_, '_, S> {
                 },
                 self.notes,
             ),
-            Builtin::Size => self.size(at, x),
-            Builtin::High => self.high(at, x),
+            Builtin::Size => size_coded(
+                self.scopes,
+                self.site,
+                Placed { at, coded: x },
+                self.fragments,
+                self.notes,
+            ),
+            Builtin::High => high_coded(
+                self.scopes,
+                self.site,
+                Placed { at, coded: x },
+                self.fragments,
+                self.notes,
+            ),
             _ => Ok(Ask::Known(Coded::in_error())),
         }
     }

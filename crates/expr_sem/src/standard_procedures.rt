@@ -15,6 +15,7 @@ ghost use Rattle.block_code.specs.StandardProcedures.{step_number as spec_number
 ghost use Rattle.block_code.specs.StandardProcedures.{takes_count as spec_count};
 ghost use Rattle.type_rules.specs.Sites.{SuitsSite};
 
+use crate::answers::answered_as;
 use crate::coded::{Coded, Placed};
 use crate::coder::Coder;
 use crate::fragments::Fragments;
@@ -63,10 +64,7 @@ pub fn of_no_argument(f: Builtin, fragments: &mut Fragments) -> Result<Ask<Coded
         coded_in (λ c. gives (spec_none f)) }
 {
     match f {
-        Builtin::Halt => {
-            let code = fragments.one(Instr::Halt)?;
-            Ok(Ask::Known(Coded::new(NO_VALUE, code)))
-        }
+        Builtin::Halt => answered_as(NO_VALUE, fragments.one(Instr::Halt)),
         _ => Ok(Ask::Known(Coded::in_error())),
     }
 }
@@ -98,7 +96,7 @@ impl<S: Scopes> Coder<'_, '_, S> {
                 let one = Coded::bare(Operand::Constant(WHOLE, 1));
                 self.stepped(f, v, one)
             }
-            Builtin::New => {
+            Builtin::New | Builtin::Dispose => {
                 let argument = Placed { at, coded: x };
                 let v = analysed!(variable_argument(
                     self.scopes,
@@ -107,18 +105,10 @@ impl<S: Scopes> Coder<'_, '_, S> {
                     argument,
                     self.notes
                 ));
-                new_room(self.scopes, self.site, v, self.fragments)
-            }
-            Builtin::Dispose => {
-                let argument = Placed { at, coded: x };
-                let v = analysed!(variable_argument(
-                    self.scopes,
-                    self.site,
-                    Wanted::Pointer,
-                    argument,
-                    self.notes
-                ));
-                disposed(v, self.fragments)
+                match f {
+                    Builtin::New => new_room(self.scopes, self.site, v, self.fragments),
+                    _ => disposed(v, self.fragments),
+                }
             }
             _ => self.function_of_one(f, at, x),
         }

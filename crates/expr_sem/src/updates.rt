@@ -1,24 +1,25 @@
 //! Variables that a standard procedure changes: the change of INC and DEC, and that of INCL and EXCL.
-ghost use Rattle.std.specs.Prelude.{◌≡◌, ◌||◌, Some, option_map};
+ghost use Rattle.std.specs.Prelude.{◌≡◌, ◌||◌};
 ghost use Rattle.m2_base.specs.Gives.{gives};
 ghost use Rattle.m2_base.specs.States.{Waits};
 ghost use Rattle.m2_base.specs.Statics.Operands.{is_bad as spec_bad};
 ghost use Rattle.m2_base.specs.Statics.Ranges.{range};
 ghost use Rattle.expr_sem.specs.Coders.{Codes, Keeps, SuitsPlace, frame_of, nodes_of};
 ghost use Rattle.expr_sem.specs.Codings.{IsCoded, coded_in};
-ghost use Rattle.block_code.specs.Fitting.{check_of};
 ghost use Rattle.expr_sem.specs.Fragments.{IsIn, IsMade, part};
 ghost use Rattle.block_code.specs.Parts.{plain};
 ghost use Rattle.block_code.specs.StandardProcedures.{counting_range as spec_counting};
 ghost use Rattle.block_code.specs.StandardProcedures.{step_instrs as spec_step_instrs, stepped as spec_stepped};
-ghost use Rattle.expr_sem.specs.Updates.{instrs_of, second_of, updated_by};
+ghost use Rattle.expr_sem.specs.Updates.{instrs_of, updated_by};
 ghost use Rattle.type_rules.specs.Asks.{Reads, WhereKnown, WhereWaiting};
 ghost use Rattle.type_rules.specs.Scenes.{IsThere, WhereTold};
 ghost use Rattle.type_rules.specs.Sites.{SuitsSite, context_of};
 
+use crate::answers::answered_as;
 use crate::chains::{instr_behind, pair};
 use crate::coded::Coded;
 use crate::coder::Coder;
+use crate::fitting::range_check;
 use crate::fragments::{Fragment, Fragments};
 use crate::operators::side_of;
 use crate::values::value_code;
@@ -85,16 +86,6 @@ fn counting_range(side: u8) -> (i64, i64)
     }
 }
 
-/// The check against a range of what lies in another, where that isn't within it.
-fn check_within(from: (i64, i64), to: Option<(i64, i64)>) -> Option<Instr>
-    ensures { second_of result ≡ check_of (Some (range from.0 from.1)) (option_map (λ ends. range ends.0 ends.1) to) }
-{
-    match to {
-        Some((low, high)) if from.0 < low || high < from.1 => Some(Instr::Check(low, high)),
-        _ => None,
-    }
-}
-
 /// The change of INC and DEC to a variable of this type.
 #[tactic(auto, using(type_rules::proofs::Reading::reading))]
 fn step_change<S: Scopes>(scopes: &mut S, site: &Site, f: Builtin, of: Place) -> Ask<Change>
@@ -108,7 +99,7 @@ fn step_change<S: Scopes>(scopes: &mut S, site: &Site, f: Builtin, of: Place) ->
 {
     let side = known!(side_of(scopes, site, of));
     let ends = known!(range_of(scopes, site.around, of));
-    let second = check_within(counting_range(side), ends);
+    let second = range_check(Some(counting_range(side)), ends);
     match f {
         Builtin::Inc => Ask::Known(Change {
             first: Instr::Add(side),
@@ -144,7 +135,6 @@ impl<S: Scopes> Coder<'_, '_, S> {
         let number = analysed!(value_code(self.scopes, self.site, n, self.fragments));
         let of = operand_type(&x.operand);
         let change = asked!(step_change(self.scopes, self.site, f, of));
-        let code = updated(x.code, number, change, self.fragments)?;
-        Ok(Ask::Known(Coded::new(NO_VALUE, code)))
+        answered_as(NO_VALUE, updated(x.code, number, change, self.fragments))
     }
 }

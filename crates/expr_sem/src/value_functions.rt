@@ -4,10 +4,11 @@ ghost use Rattle.std.specs.Option.{IfSome};
 ghost use Rattle.m2_base.specs.Gives.{gives};
 ghost use Rattle.m2_base.specs.Standard.{broken, cardinal, character};
 ghost use Rattle.m2_base.specs.States.{Frame, Waits};
+ghost use Rattle.m2_base.specs.declared.notes.Notes.{Notes as NotesOf};
 ghost use Rattle.const_eval.specs.Analyses.{Analysed};
 ghost use Rattle.const_eval.specs.Sites.{IsOperand};
 ghost use Rattle.expr_sem.specs.Coders.{Codes, Keeps, SuitsPlace, frame_of, nodes_of};
-ghost use Rattle.expr_sem.specs.Codings.{IsCoded, IsFragment, coded_in};
+ghost use Rattle.expr_sem.specs.Codings.{Coding, IsCoded, IsFragment, coded_in};
 ghost use Rattle.expr_sem.specs.Fragments.{IsIn, IsMade, part};
 ghost use Rattle.block_code.specs.Parts.{plain, ◌⨟◌};
 ghost use Rattle.block_code.specs.StandardFunctions.{on_value as spec_on_value};
@@ -139,27 +140,33 @@ fn with_ending(
     }
 }
 
-impl<S: Scopes> Coder<'_, '_, S> {
-    /// The code of a value under a rule.
-    fn rule_code(&mut self, rule: Rule, v: Coded) -> Result<Ask<Fragment>, Memory>
-        requires suits { SuitsPlace S.state self.old }
-        requires rule { IsRuleHere (frame_of S.state self.old) rule }
-        requires v { IsCoded (frame_of S.state self.old) (nodes_of self.old) v }
-        ensures keeps { Keeps self.old self.new }
-        ensures codes { Codes S.state self.old self.new result IsFragment part
-            (λ c. gives (code_of c rule (coded_in (nodes_of self.old) v))) }
-    {
-        match target_of(rule) {
-            Some(to) => fitted_code(self.scopes, self.site, to, v, self.fragments),
-            None => {
-                let value = analysed!(value_code(self.scopes, self.site, v, self.fragments));
-                let of = operand_type(&v.operand);
-                let after = asked!(ending_of(self.scopes, self.site, rule, of));
-                answered(with_ending(value, after, self.fragments))
-            }
+/// The code of a value under a rule.
+fn rule_code<S: Scopes>(
+    scopes: &mut S,
+    site: &Site,
+    rule: Rule,
+    v: Coded,
+    fragments: &mut Fragments,
+) -> Result<Ask<Fragment>, Memory>
+    requires suits { SuitsSite (S.state scopes.old).frame site.now }
+    requires rule { IsRuleHere (S.state scopes.old).frame rule }
+    requires v { IsCoded (S.state scopes.old).frame fragments.old.nodes.items v }
+    ensures { (notes : NotesOf) → Coding (S.state scopes.old) (S.state scopes.new) notes notes
+        fragments.old.nodes.items fragments.new.nodes.items site.now result IsFragment part
+        (λ c. gives (code_of c rule (coded_in fragments.old.nodes.items v))) }
+{
+    match target_of(rule) {
+        Some(to) => fitted_code(scopes, site, to, v, fragments),
+        None => {
+            let value = analysed!(value_code(scopes, site, v, fragments));
+            let of = operand_type(&v.operand);
+            let after = asked!(ending_of(scopes, site, rule, of));
+            answered(with_ending(value, after, fragments))
         }
     }
+}
 
+impl<S: Scopes> Coder<'_, '_, S> {
     /// A rule on an argument, of which a value is wanted.
     pub(crate) fn on_value(&mut self, rule: Rule, at: u32, x: Coded) -> Result<Ask<Coded>, Memory>
         requires suits { SuitsPlace S.state self.old }
@@ -175,7 +182,7 @@ impl<S: Scopes> Coder<'_, '_, S> {
             operand: v.operand,
         };
         let given = analysed!(rule_noted(self.scopes, self.site, rule, argument, self.notes));
-        let code = analysed!(self.rule_code(rule, v));
+        let code = analysed!(rule_code(self.scopes, self.site, rule, v, self.fragments));
         Ok(Ask::Known(made(given, code)))
     }
 }

@@ -11,7 +11,7 @@ ghost use Rattle.expr_sem.specs.Codings.{Coding, IsCoded, coded_in};
 ghost use Rattle.block_code.specs.Variables.{cell_instr as spec_cell, entry_coded as spec_entry};
 ghost use Rattle.block_code.specs.Variables.{links_out as spec_links, with_address as spec_with};
 
-use crate::addressed::variable_at;
+use crate::answers::answered_as;
 use crate::chains::pair;
 use crate::coded::Coded;
 use crate::fragments::Fragments;
@@ -62,8 +62,8 @@ fn with_address(
     };
     let cell = cell_instr(site.around, scope, offset);
     match mode {
-        Mode::Plain => variable_at(of, fragments.one(cell)),
-        Mode::ByAddress => variable_at(of, pair(cell, Instr::Load, fragments)),
+        Mode::Plain => answered_as(Operand::Variable(of), fragments.one(cell)),
+        Mode::ByAddress => answered_as(Operand::Variable(of), pair(cell, Instr::Load, fragments)),
         Mode::Open => {
             let Some(next) = offset.checked_add(1) else {
                 return Err(Memory);

@@ -1,11 +1,10 @@
 use Rattle.std.proofs.Common.{◌≡◌, ◌∙◌, None, Option, Some, ap, sym, refl}
+use Rattle.m2_base.specs.Gives.{gives}
 use Rattle.expr_sem.specs.ArgumentCodes.{IsArgument, argument_in}
 use Rattle.block_code.specs.Arguments.{after_argument}
 use Rattle.expr_sem.specs.Fragments.{part}
-use Rattle.block_code.specs.Parts.{Part}
 use Rattle.expr_sem.specs.declared.fragments.Fragment.{Fragment}
-use Rattle.expr_sem.proofs.Onwards.{just_wanted}
-use Rattle.expr_sem.proofs.Operating.{value_alone, value_grown}
+use Rattle.expr_sem.proofs.Operating.{described, value_alone}
 use Rattle.expr_sem.proofs.argument_codes.joined.Goals as goal
 
 none_of : {T : Type 0} (o : Option T) → ((v : T) → o ≡ Some v → ⊥) → None ≡ o
@@ -25,13 +24,9 @@ returns-in_default-argument c state notes site =
     (λ k. ap (λ (o : Option Fragment). after_argument (Some (part ns c.in-Some.first)) (argument_in ns o)) (none_of c.args.argument c.in_default-argument.not-Some)
     ∙ ap (λ (o : Option Fragment). after_argument (argument_in ns o) (argument_in ns c.args.argument)) (sym c.in-Some.is))
 
-pub returns-in_err-both : goal.returns-in_err-both
-returns-in_err-both c state notes site = just_wanted state notes site c.from_residual.result c.from_residual.ensures.0 c.in_err-both.ensures.made
-
 pub returns : goal.returns
 returns c state notes site =
     let ns = c.args.fragments.now.nodes.items in
-    let made = c.in_ok-both.ensures.made in
-    value_grown state notes site _ IsArgument argument_in (λ k. after_argument (argument_in ns c.args.code) (argument_in ns c.args.argument)) made.grows made.made.there
-    (λ k. ap (λ (p : Part). Some p) made.made.part_is ∙ ap (λ (o : Option Fragment). after_argument (Some (part ns c.in-Some.first)) (argument_in ns o)) (sym c.in-Some-argument.is)
-    ∙ ap (λ (o : Option Fragment). after_argument (argument_in ns o) (argument_in ns c.args.argument)) (sym c.in-Some.is))
+    described c.passed_as.result (c.passed_as.ensures state notes site _ _ _ c.then.ensures.made)
+    (λ k. ap (λ (o : Option Fragment). gives (after_argument (Some (part ns c.in-Some.first)) (argument_in ns o))) (sym c.in-Some-argument.is)
+    ∙ ap (λ (o : Option Fragment). gives (after_argument (argument_in ns o) (argument_in ns c.args.argument))) (sym c.in-Some.is))

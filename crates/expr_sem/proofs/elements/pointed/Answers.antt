@@ -33,8 +33,8 @@ returns g c notes =
     let a = c.args.site.now.around.now in
     let reads = Reads-trans c.target_named.ensures.reads c.is_broken.ensures.reads in
     let broken = told_later f h (λ e made. c.in-Known-is_broken.value ≡ is_broken (scene_of e made a) c.in-Known.value) c.target_named.ensures.reads.keeps.frame c.in-Known-is_broken.ensures.told in
-    after_question c.variable_at.result reads
-    (c.variable_at.ensures (g.S.Scopes.state c.is_broken.new.scopes) notes c.args.site.now _ _ _ (stays_read (λ e. IsThere e c.in-Known.value) reads c.in-Known.ensures.there) c.target_code.ensures)
+    after_question c.answered_as.result reads
+    (c.answered_as.ensures (g.S.Scopes.state c.is_broken.new.scopes) notes c.args.site.now _ _ _ (stays_read (λ e. IsThere e c.in-Known.value) reads c.in-Known.ensures.there) c.target_code.ensures)
     (λ made in_hand told. pointed_whole (scene_of f made a) (part c.args.fragments.now.nodes.items c.args.code) c.in-Known.value _ (sym c.if-value.false ∙ broken made in_hand told) (c.in-Known.ensures.told made in_hand told))
 
 pub is_broken-requires-clause-suits : goal.is_broken-requires-clause-suits

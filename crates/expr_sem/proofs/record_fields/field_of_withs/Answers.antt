@@ -55,3 +55,18 @@ returns-clause-told g c made in_hand told =
     let scene = scene_of (g.S.Scopes.state c.args.scopes.now).frame made c.args.around.now in
     let k = c.loop-number.number in
     sym (ap (λ (l : List With). with_number scene k (with_types l) c.args.name) (drop_all k c.args.withs.now c.loop-number-test.false)) ∙ c.loop-number.invariant.left made in_hand told
+
+pub returns-in-DontKnowYet-clause-told : goal.returns-in-DontKnowYet-clause-told
+returns-in-DontKnowYet-clause-told g c made in_hand told = tt
+
+pub returns-in-DontKnowYet-clause-field : goal.returns-in-DontKnowYet-clause-field
+returns-in-DontKnowYet-clause-field g c = tt
+
+pub returns-in-Some-clause-waits : goal.returns-in-Some-clause-waits
+returns-in-Some-clause-waits g c = tt
+
+pub returns-clause-waits : goal.returns-clause-waits
+returns-clause-waits g c = tt
+
+pub returns-clause-field : goal.returns-clause-field
+returns-clause-field g c = tt

@@ -14,14 +14,10 @@ use Rattle.type_rules.proofs.Later.{IsThere_read, Suits_read}
 use Rattle.type_rules.proofs.Reading.{Reads-refl, Reads-trans, Waits_read}
 use Rattle.type_rules.specs.Scenes.{IsThere}
 use Rattle.type_rules.specs.Sites.{context_of}
-use Rattle.block_code.specs.Coded.{coded, in_error}
-use Rattle.expr_sem.specs.Codings.{IsCoded, coded_in}
+use Rattle.block_code.specs.Coded.{in_error}
 use Rattle.expr_sem.specs.Fragments.{part}
-use Rattle.block_code.specs.Parts.{Part}
 use Rattle.expr_sem.specs.Rooms.{room_at, room_of}
-use Rattle.block_code.specs.StandardProcedures.{no_value}
-use Rattle.expr_sem.proofs.Making.{after_question, question_failed, question_full, question_waits}
-use Rattle.expr_sem.proofs.Operating.{value_grown}
+use Rattle.expr_sem.proofs.Making.{after_question, question_failed, question_waits}
 use Rattle.expr_sem.proofs.Selecting.{error_alone, stays_read}
 use Rattle.expr_sem.proofs.rooms.new_room.Goals as goal
 
@@ -82,24 +78,15 @@ returns-in-DontKnowYet-cells_of g c notes =
     let before = Reads-trans c.in-Known.ensures.reads c.in-Known-is_broken.ensures.reads in
     question_waits notes _ (Reads-trans before c.in-DontKnowYet-cells_of.ensures.reads) (Waits_read before c.in-DontKnowYet-cells_of.ensures.waits)
 
-pub returns-in_err-code : goal.returns-in_err-code
-returns-in_err-code g c notes =
-    let reads = Reads-trans (Reads-trans c.in-Known.ensures.reads c.in-Known-is_broken.ensures.reads) c.in-Known-cells_of.ensures.reads in
-    question_full notes c.from_residual.result c.from_residual.ensures.0 reads c.in_err-code.ensures
-
 pub returns : goal.returns
 returns g c notes =
     let ns = c.args.fragments.now.nodes.items in
-    let ms = c.instr_behind.new.fragments.nodes.items in
     let p = part ns c.args.x.code in
-    let made = c.in_ok-code.ensures in
     let reads = Reads-trans (Reads-trans c.in-Known.ensures.reads c.in-Known-is_broken.ensures.reads) c.in-Known-cells_of.ensures.reads in
     after_question {g = λ (k : Context). gives (room_of k.scene p c.in-Known.value)} _ c.in-Known.ensures.reads
     (after_question {g = λ (k : Context). gives (room_at p (size_of k.scene c.in-Known.value))} _ c.in-Known-is_broken.ensures.reads
     (after_question {g = λ (k : Context). gives (room_at p c.in-Known-cells_of.value)} _ c.in-Known-cells_of.ensures.reads
-    (value_grown (g.S.Scopes.state c.cells_of.new.scopes) notes c.args.site.now c.new.result IsCoded coded_in (λ k. room_at p c.in-Known-cells_of.value)
-    made.grows (c.new.ensures.there _ ms (stays_read (λ (f : Frame). IsThere f broken) reads (standard_there c.requires.suits.around 10)) made.made.there)
-    (λ k. c.new.ensures.told ms ∙ ap (λ (q : Part). coded no_value q) made.made.part_is))
+    (c.answered_as.ensures (g.S.Scopes.state c.cells_of.new.scopes) notes c.args.site.now _ _ _ (stays_read (λ (f : Frame). IsThere f broken) reads (standard_there c.requires.suits.around 10)) c.instr_behind.ensures)
     (λ rows in_hand told. ap (λ (s : ℕ). gives (room_at p s)) (c.in-Known-cells_of.ensures.told rows in_hand told)))
     (λ rows in_hand told. let k = context_of (g.S.Scopes.state c.target_of.new.scopes).frame rows c.args.site.now in
     ap (λ (b : Bool). gives (if b then in_error else room_at p (size_of k.scene c.in-Known.value))) (sym c.if-value.false ∙ c.in-Known-is_broken.ensures.told rows in_hand told)))

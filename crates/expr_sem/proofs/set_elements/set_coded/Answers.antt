@@ -1,15 +1,15 @@
 use Rattle.std.proofs.Common.{◌∙◌, ap, subst, sym, ℤ, w64}
 use Rattle.std.proofs.lemmas.Int.{to_z-of_z}
+use Rattle.m2_base.specs.Gives.{gives}
 use Rattle.m2_base.specs.Rows.{IsValue}
 use Rattle.m2_base.specs.declared.operands.Operand.{Operand}
-use Rattle.m2_base.specs.declared.operands.Operand.TheVariants.{Computed, Constant}
+use Rattle.m2_base.specs.declared.operands.Operand.TheVariants.{Constant}
 use Rattle.const_eval.specs.Sites.{IsOperand}
 use Rattle.expr_sem.specs.Codings.{IsCoded, coded_in}
-use Rattle.block_code.specs.Coded.{bare, coded}
+use Rattle.block_code.specs.Coded.{bare}
 use Rattle.expr_sem.specs.Fragments.{part}
-use Rattle.block_code.specs.Parts.{Part}
 use Rattle.block_code.specs.SetElements.{set_by}
-use Rattle.expr_sem.proofs.Operating.{value_alone, value_grown}
+use Rattle.expr_sem.proofs.Operating.{described, value_alone}
 use Rattle.expr_sem.proofs.Onwards.{just_wanted}
 use Rattle.expr_sem.proofs.Sequencing.{made_before}
 use Rattle.expr_sem.proofs.Without.{computed_set, value_fits}
@@ -32,13 +32,9 @@ returns-in-InError c state notes site h k =
 pub returns-in_err-empty-in_default : goal.returns-in_err-empty-in_default
 returns-in_err-empty-in_default c state notes site h k = just_wanted state notes site c.from_residual.result c.from_residual.ensures.0 c.in_err-empty-in_default.ensures.made
 
-pub returns-in_err-code-in_default : goal.returns-in_err-code-in_default
-returns-in_err-code-in_default c state notes site h k =
-    just_wanted state notes site c.from_residual-in_err-code-in_default.result c.from_residual-in_err-code-in_default.ensures.0 (made_before _ c.args.es.code c.requires.code c.in_ok-empty-in_default.ensures.made c.in_err-code-in_default.ensures.made)
-
-pub returns-in_ok-code-in_default : goal.returns-in_ok-code-in_default
-returns-in_ok-code-in_default c state notes site h k =
+pub returns-in_ok-empty-in_default : goal.returns-in_ok-empty-in_default
+returns-in_ok-empty-in_default c state notes site h k =
     let ns = c.args.fragments.now.nodes.items in
-    let made = made_before _ c.args.es.code c.requires.code c.in_ok-empty-in_default.ensures.made c.in_ok-code-in_default.ensures.made in
-    value_grown state notes site c.new.result IsCoded coded_in (λ u. set_by c.args.of (part ns c.args.es.code) c.args.es.set) made.grows (c.new.ensures.there _ _ h made.made.there)
-    (λ u. c.new.ensures.told c.then.new.self.nodes.items ∙ ap (λ (p : Part). coded (Computed c.args.of) p) made.made.part_is ∙ computed_set c.args.of (part ns c.args.es.code) c.args.es.set c.in_default.not-Constant c.in_default.not-InError)
+    let made = made_before _ c.args.es.code c.requires.code c.in_ok-empty-in_default.ensures.made c.then.ensures.made in
+    described c.answered_as.result (c.answered_as.ensures state notes site _ _ _ h made)
+    (λ u. ap (λ s. gives s) (computed_set c.args.of (part ns c.args.es.code) c.args.es.set c.in_default.not-Constant c.in_default.not-InError))

@@ -7,7 +7,7 @@ use Rattle.m2_base.specs.declared.rows.Place.{Place}
 use Rattle.m2_base.specs.declared.rows.RowMeaning.{RowMeaning}
 use Rattle.m2_base.specs.declared.rows.RowMeaning.TheVariants.{Array}
 use Rattle.type_rules.proofs.Later.{IsThere_read, Suits_read, Waits_asked}
-use Rattle.type_rules.proofs.Reading.{Reads-trans, Waits_read}
+use Rattle.type_rules.proofs.Reading.{Reads-refl, Reads-trans, Waits_read}
 use Rattle.block_code.specs.Values.{has_broken_part as spec_broken_part, is_passed_over as spec_passed_over}
 use Rattle.type_rules.specs.Scenes.{scene_of}
 use Rattle.type_rules.proofs.Compatibles.{told_as, told_later}
@@ -155,3 +155,9 @@ returns-in_default-clause-reads g c = Reads-trans c.in-Known.ensures.reads c.in-
 
 pub returns-in_default-clause-waits : goal.returns-in_default-clause-waits
 returns-in_default-clause-waits g c = tt
+
+pub returns-then-is_bad-clause-reads : goal.returns-then-is_bad-clause-reads
+returns-then-is_bad-clause-reads g c = Reads-refl _
+
+pub returns-then-is_bad-clause-waits : goal.returns-then-is_bad-clause-waits
+returns-then-is_bad-clause-waits g c = tt

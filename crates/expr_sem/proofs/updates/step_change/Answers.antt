@@ -12,7 +12,7 @@ use Rattle.type_rules.proofs.Compatibles.{told_later}
 use Rattle.block_code.specs.Fitting.{check_of}
 use Rattle.block_code.specs.Operators.{side_of}
 use Rattle.block_code.specs.StandardProcedures.{counting_range, step_instr}
-use Rattle.expr_sem.specs.Updates.{second_of}
+use Rattle.expr_sem.specs.RangeChecks.{instrs_if}
 use Rattle.type_rules.proofs.Later.{IsThere_read, Suits_read}
 use Rattle.type_rules.proofs.Reading.{Reads-trans, Waits_read}
 use Rattle.expr_sem.proofs.updates.step_change.Goals as goal
@@ -47,8 +47,8 @@ returns-in-Inc-clause-told g c made in_hand told =
     let from = ap (λ (r : Range). check_of (Some r) (option_map (λ ends. range ends.0 ends.1) c.in-Known-range_of.value)) c.counting_range.ensures in
     let rest = ap (λ (b : ℕ). step_instr c.args.f b ∷ check_of (Some (counting_range b)) (option_map (λ ends. range ends.0 ends.1) c.in-Known-range_of.value)) side
     ∙ ap (λ (r : Option Range). step_instr c.args.f (side_of k.scene c.args.of) ∷ check_of (Some (counting_range (side_of k.scene c.args.of))) r) ends in
-    ap (λ (i : Instr). i ∷ second_of c.check_within-second.result) (ap (λ (p : Builtin). step_instr p c.in-Known.value) (sym c.in-Inc.is))
-    ∙ ap (λ (l : List Instr). step_instr c.args.f c.in-Known.value ∷ l) (c.check_within-second.ensures ∙ from) ∙ rest
+    ap (λ (i : Instr). i ∷ instrs_if c.range_check-second.result) (ap (λ (p : Builtin). step_instr p c.in-Known.value) (sym c.in-Inc.is))
+    ∙ ap (λ (l : List Instr). step_instr c.args.f c.in-Known.value ∷ l) (c.range_check-second.ensures ∙ from) ∙ rest
 
 pub returns-in_default-clause-reads : goal.returns-in_default-clause-reads
 returns-in_default-clause-reads g c = Reads-trans c.in-Known.ensures.reads c.in-Known-range_of.ensures.reads
@@ -63,5 +63,5 @@ returns-in_default-clause-told g c made in_hand told =
     let from = ap (λ (r : Range). check_of (Some r) (option_map (λ ends. range ends.0 ends.1) c.in-Known-range_of.value)) c.counting_range.ensures in
     let rest = ap (λ (b : ℕ). step_instr c.args.f b ∷ check_of (Some (counting_range b)) (option_map (λ ends. range ends.0 ends.1) c.in-Known-range_of.value)) side
     ∙ ap (λ (r : Option Range). step_instr c.args.f (side_of k.scene c.args.of) ∷ check_of (Some (counting_range (side_of k.scene c.args.of))) r) ends in
-    ap (λ (i : Instr). i ∷ second_of c.check_within-second.result) (no_sum c.args.f c.in-Known.value c.in_default.not-Inc)
-    ∙ ap (λ (l : List Instr). step_instr c.args.f c.in-Known.value ∷ l) (c.check_within-second.ensures ∙ from) ∙ rest
+    ap (λ (i : Instr). i ∷ instrs_if c.range_check-second.result) (no_sum c.args.f c.in-Known.value c.in_default.not-Inc)
+    ∙ ap (λ (l : List Instr). step_instr c.args.f c.in-Known.value ∷ l) (c.range_check-second.ensures ∙ from) ∙ rest

@@ -38,7 +38,7 @@ returns-in-Plain c state notes there =
     let b = block_of c.args.site.now.around.now in
     let t = c.in-Var.field-0 in
     let u = c.in-Variable.of in
-    described_there c.variable_at.result (c.variable_at.ensures state notes c.args.site.now _ _ _ (rw c.in-Variable.is at there) c.one.ensures.made)
+    described_there c.answered_as.result (c.answered_as.ensures state notes c.args.site.now _ _ _ (rw c.in-Variable.is at there) c.one.ensures.made)
     (λ made. ap (λ i. gives (coded (Variable u) (plain (i ∷ [])))) c.cell_instr-cell.ensures
     ∙ ap (λ m. gives (with_address b c.args.scope (Var t m c.in-Var.offset) (Variable u))) (sym c.in-Plain.is)
     ∙ ap (λ m. gives (with_address b c.args.scope m (Variable u))) (sym c.in-Var.is)
@@ -49,7 +49,7 @@ returns-in-ByAddress c state notes there =
     let b = block_of c.args.site.now.around.now in
     let t = c.in-Var.field-0 in
     let u = c.in-Variable.of in
-    described_there c.variable_at-in-ByAddress.result (c.variable_at-in-ByAddress.ensures state notes c.args.site.now _ _ _ (rw c.in-Variable.is at there) c.pair.ensures)
+    described_there c.answered_as-in-ByAddress.result (c.answered_as-in-ByAddress.ensures state notes c.args.site.now _ _ _ (rw c.in-Variable.is at there) c.pair.ensures)
     (λ made. ap (λ i. gives (coded (Variable u) (plain (i ∷ Load ∷ [])))) c.cell_instr-cell.ensures
     ∙ ap (λ m. gives (with_address b c.args.scope (Var t m c.in-Var.offset) (Variable u))) (sym c.in-ByAddress.is)
     ∙ ap (λ m. gives (with_address b c.args.scope m (Variable u))) (sym c.in-Var.is)

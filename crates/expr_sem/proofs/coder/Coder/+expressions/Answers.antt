@@ -111,15 +111,16 @@ member-returns-in-InError-clause-codes g t c =
 
 pub member-returns-in_default-clause-codes : goal.member-returns-in_default-clause-codes
 member-returns-in_default-clause-codes g t c =
+    let told_first = rw c.in-Known.is at c.in-Ok.ensures.codes in
     let e = c.args.e.now in
     let v = coded_in c.value_of.new.self.fragments.now.nodes.items c.in-Known.value in
     let u = c.in-Known-asked.value in
     let r = Ok (Known c.taken-in_default.result) in
     let first = rw c.in-Known-asked.is at c.in-Ok-taken.ensures in
     let two = of_analysed c.value_of.new.self.fragments.now.nodes.items _ first in
-    described r (coding_after (λ k. value k (with_types c.args.self.now.withs.now) (expr_view e)) (λ v k. element_coded k c.args.base e.at v) r (rw c.in-Known.is at c.in-Ok.ensures.codes)
+    described r (coding_after (λ k. value k (with_types c.args.self.now.withs.now) (expr_view e)) (λ v k. element_coded k c.args.base e.at v) r told_first
     (coding_after (λ k. element_of k c.args.base e.at c.in-Known.value.operand) (λ u k. gives (sets.element_as v u)) r (rw c.value_of.ensures.keeps.site at two)
-    (value_alone (g.S.Scopes.state c.taken.new.scopes) c.taken.new.notes c.value_of.new.self.fragments.now.nodes.items c.args.self.now.site.now c.taken-in_default.result IsCoded coded_in (λ k. sets.element_as v u) (c.taken-in_default.ensures.there _ c.value_of.new.self.fragments.now.nodes.items (holds_after two (λ (f : Frame). IsOperand f u) first.there) (coded_after two c.in-Known.value (stands_after (rw c.in-Known.is at c.in-Ok.ensures.codes)))) (λ k. c.taken-in_default.ensures.told c.value_of.new.self.fragments.now.nodes.items ∙ taken_as v u c.in_default.not-InError))))
+    (value_alone (g.S.Scopes.state c.taken.new.scopes) c.taken.new.notes c.value_of.new.self.fragments.now.nodes.items c.args.self.now.site.now c.taken-in_default.result IsCoded coded_in (λ k. sets.element_as v u) (c.taken-in_default.ensures.there _ c.value_of.new.self.fragments.now.nodes.items (holds_after two (λ (f : Frame). IsOperand f u) first.there) (coded_after two c.in-Known.value (stands_after told_first))) (λ k. c.taken-in_default.ensures.told c.value_of.new.self.fragments.now.nodes.items ∙ taken_as v u c.in_default.not-InError))))
     (λ k. ap (λ (at : ℕ). and_then (value k (with_types c.args.self.now.withs.now) (expr_view e)) (λ v. element_coded k c.args.base at v)) (sym (at_seen e)))
 
 pub set_type-designated-requires : goal.set_type-designated-requires
@@ -152,7 +153,8 @@ set_of-returns-in-DontKnowYet-clause-codes g t c = unknown (rw c.in-DontKnowYet.
 
 pub set_of-elements-requires : goal.set_of-elements-requires
 set_of-elements-requires g t c κs within =
-    (search rules, (within, (suits_after (rw c.in-Known.is at (started c.args.self.now.notes.now c.args.self.now.fragments.now.nodes.items c.args.self.now.site.now c.set_start.result c.args.of c.set_start.ensures.reads c.set_start.ensures.waits c.set_start.ensures.based c.set_start.ensures.told c.set_start.ensures.base c.set_start.ensures.elements)) c.requires.suits, (open_after (rw c.in-Known.is at (started c.args.self.now.notes.now c.args.self.now.fragments.now.nodes.items c.args.self.now.site.now c.set_start.result c.args.of c.set_start.ensures.reads c.set_start.ensures.waits c.set_start.ensures.based c.set_start.ensures.told c.set_start.ensures.base c.set_start.ensures.elements)) c.args.self.now.withs.now c.requires.withs, ((stands_after (rw c.in-Known.is at (started c.args.self.now.notes.now c.args.self.now.fragments.now.nodes.items c.args.self.now.site.now c.set_start.result c.args.of c.set_start.ensures.reads c.set_start.ensures.waits c.set_start.ensures.based c.set_start.ensures.told c.set_start.ensures.base c.set_start.ensures.elements))).0, ((stands_after (rw c.in-Known.is at (started c.args.self.now.notes.now c.args.self.now.fragments.now.nodes.items c.args.self.now.site.now c.set_start.result c.args.of c.set_start.ensures.reads c.set_start.ensures.waits c.set_start.ensures.based c.set_start.ensures.told c.set_start.ensures.base c.set_start.ensures.elements))).1, (c.requires.read)))))))
+    let told_first = rw c.in-Known.is at (started c.args.self.now.notes.now c.args.self.now.fragments.now.nodes.items c.args.self.now.site.now c.set_start.result c.args.of c.set_start.ensures.reads c.set_start.ensures.waits c.set_start.ensures.based c.set_start.ensures.told c.set_start.ensures.base c.set_start.ensures.elements) in
+    (search rules, (within, (suits_after told_first c.requires.suits, (open_after told_first c.args.self.now.withs.now c.requires.withs, ((stands_after told_first).0, ((stands_after told_first).1, (c.requires.read)))))))
 
 pub set_of-returns-in-DontKnowYet-asked-clause-codes : goal.set_of-returns-in-DontKnowYet-asked-clause-codes
 set_of-returns-in-DontKnowYet-asked-clause-codes g t c = unknown_after (rw c.in-Known.is at (started c.args.self.now.notes.now c.args.self.now.fragments.now.nodes.items c.args.self.now.site.now c.set_start.result c.args.of c.set_start.ensures.reads c.set_start.ensures.waits c.set_start.ensures.based c.set_start.ensures.told c.set_start.ensures.base c.set_start.ensures.elements)) (rw c.in-DontKnowYet-asked.is at c.in-Ok.ensures.codes)
@@ -221,7 +223,8 @@ range_to-returns-clause-codes g t c =
 
 pub element-range_to-requires : goal.element-range_to-requires
 element-range_to-requires g t c κs within =
-    ((let small = high_smaller c.args.label.now c.in-Some.high c.in-Some.is in omega (arith, small, c.decreases)), (within, ((rw c.member.ensures.keeps.site (suits_after (rw c.in-Known.is at c.in-Ok.ensures.codes) c.requires.suits)), ((rw c.member.ensures.keeps.withs (open_after (rw c.in-Known.is at c.in-Ok.ensures.codes) c.args.self.now.withs.now c.requires.withs)), (there_after (rw c.in-Known.is at c.in-Ok.ensures.codes) c.args.base c.requires.base, (elements_after (rw c.in-Known.is at c.in-Ok.ensures.codes) c.args.es c.requires.es, (stands_after (rw c.in-Known.is at c.in-Ok.ensures.codes), (rw c.member.ensures.keeps.site (high_read c.args.self.now.site.now.texts.now.names (expr_view (out-Label c.args.label.now).low) (expr_view c.in-Some.high) (rw (ap (option_map expr_view) c.in-Some.is) at (label_read c.args.self.now.site.now.texts.now.names c.args.label.now c.requires.read)))))))))))
+    let told_first = rw c.in-Known.is at c.in-Ok.ensures.codes in
+    ((let small = high_smaller c.args.label.now c.in-Some.high c.in-Some.is in omega (arith, small, c.decreases)), (within, ((rw c.member.ensures.keeps.site (suits_after told_first c.requires.suits)), ((rw c.member.ensures.keeps.withs (open_after told_first c.args.self.now.withs.now c.requires.withs)), (there_after told_first c.args.base c.requires.base, (elements_after told_first c.args.es c.requires.es, (stands_after told_first, (rw c.member.ensures.keeps.site (high_read c.args.self.now.site.now.texts.now.names (expr_view (out-Label c.args.label.now).low) (expr_view c.in-Some.high) (rw (ap (option_map expr_view) c.in-Some.is) at (label_read c.args.self.now.site.now.texts.now.names c.args.label.now c.requires.read)))))))))))
 
 pub element-returns-in-Some-clause-codes : goal.element-returns-in-Some-clause-codes
 element-returns-in-Some-clause-codes g t c =
@@ -239,7 +242,9 @@ pub called_with-returns-in-Err-clause-codes : goal.called_with-returns-in-Err-cl
 called_with-returns-in-Err-clause-codes g t c = unmade c.in-Err.ensures.codes _
 
 pub called_with-standard-requires : goal.called_with-standard-requires
-called_with-standard-requires g t c κs within = (search rules, (within, ((rw c.called.ensures.keeps.site (suits_after (rw c.in-Known.is at c.in-Ok.ensures.codes) c.requires.suits)), ((rw c.called.ensures.keeps.withs (open_after (rw c.in-Known.is at c.in-Ok.ensures.codes) c.args.self.now.withs.now c.requires.withs)), (rw c.called.ensures.keeps.site c.requires.read)))))
+called_with-standard-requires g t c κs within =
+    let told_first = rw c.in-Known.is at c.in-Ok.ensures.codes in
+    (search rules, (within, ((rw c.called.ensures.keeps.site (suits_after told_first c.requires.suits)), ((rw c.called.ensures.keeps.withs (open_after told_first c.args.self.now.withs.now c.requires.withs)), (rw c.called.ensures.keeps.site c.requires.read)))))
 
 pub called_with-returns-in-Standard-clause-codes : goal.called_with-returns-in-Standard-clause-codes
 called_with-returns-in-Standard-clause-codes g t c =
@@ -248,7 +253,9 @@ called_with-returns-in-Standard-clause-codes g t c =
     (λ k. ap (λ (n : ℕ). and_then (called k c.args.is_wanted c.args.to.at n (coded_in c.args.self.now.fragments.now.nodes.items c.args.to.coded)) (λ what. called_as k (with_types c.args.self.now.withs.now) (exprs (map expr_view c.args.args.now)) what)) (count_given expr_view c.args.args.now))
 
 pub called_with-passed-requires : goal.called_with-passed-requires
-called_with-passed-requires g t c κs within = (search rules, (within, ((rw c.called.ensures.keeps.site (suits_after (rw c.in-Known.is at c.in-Ok.ensures.codes) c.requires.suits)), ((rw c.called.ensures.keeps.withs (open_after (rw c.in-Known.is at c.in-Ok.ensures.codes) c.args.self.now.withs.now c.requires.withs)), (rw c.deref.ensures.value (rw c.in-Procedure.is at (stands_after (rw c.in-Known.is at c.in-Ok.ensures.codes))).params, (rw c.called.ensures.keeps.site c.requires.read))))))
+called_with-passed-requires g t c κs within =
+    let told_first = rw c.in-Known.is at c.in-Ok.ensures.codes in
+    (search rules, (within, ((rw c.called.ensures.keeps.site (suits_after told_first c.requires.suits)), ((rw c.called.ensures.keeps.withs (open_after told_first c.args.self.now.withs.now c.requires.withs)), (rw c.deref.ensures.value (rw c.in-Procedure.is at (stands_after told_first)).params, (rw c.called.ensures.keeps.site c.requires.read))))))
 
 pub called_with-returns-in-DontKnowYet-asked-clause-codes : goal.called_with-returns-in-DontKnowYet-asked-clause-codes
 called_with-returns-in-DontKnowYet-asked-clause-codes g t c = unknown_after (rw c.in-Known.is at c.in-Ok.ensures.codes) (rw c.called.ensures.keeps.withs at (rw c.called.ensures.keeps.site at (rw c.in-DontKnowYet-asked.is at c.in-Ok-passed.ensures.codes)))
@@ -267,15 +274,18 @@ called_with-call_coded-requires-clause-args g t c = stands_after (rw c.in-Known-
 
 pub called_with-returns-in-Procedure-clause-codes : goal.called_with-returns-in-Procedure-clause-codes
 called_with-returns-in-Procedure-clause-codes g t c =
+    let told_first = rw c.in-Known.is at c.in-Ok.ensures.codes in
     let r = c.call_coded.result in
     let two = (rw c.deref.ensures.value at (rw c.called.ensures.keeps.withs at (rw c.called.ensures.keeps.site at (rw c.in-Known-asked.is at c.in-Ok-passed.ensures.codes)))) in
     let p = c.in-Procedure.callee in
-    described r (coding_after (λ k. called k c.args.is_wanted c.args.to.at (length c.args.args.now) (coded_in c.args.self.now.fragments.now.nodes.items c.args.to.coded)) (λ what k. called_as k (with_types c.args.self.now.withs.now) (exprs (map expr_view c.args.args.now)) what) r (rw c.in-Known.is at c.in-Ok.ensures.codes) (described r (coding_after (λ k. passed k (with_types c.args.self.now.withs.now) (map parameter_view p.params.items) (exprs (map expr_view c.args.args.now))) (λ codes k. gives (call_coded k.scene (map parameter_view p.params.items) (part (c.called.new.self.fragments.now.nodes.items) p.before) p.instr p.result p.more codes)) r two
-    (described r (rw c.called.ensures.keeps.site at (rw c.passed.ensures.keeps.site at c.call_coded.ensures.codes)) (λ k. ap (λ (before : Part). gives (call_coded k.scene (map parameter_view p.params.items) before p.instr p.result p.more (argument_in (c.passed.new.self.fragments.now.nodes.items) c.in-Known-asked.value))) (part_later two.grows p.before (rw c.in-Procedure.is at (stands_after (rw c.in-Known.is at c.in-Ok.ensures.codes))).before)))) (λ k. ap (λ (w : Callable). called_as k (with_types c.args.self.now.withs.now) (exprs (map expr_view c.args.args.now)) (called_in c.called.new.self.fragments.now.nodes.items w)) (sym c.in-Procedure.is))))
+    described r (coding_after (λ k. called k c.args.is_wanted c.args.to.at (length c.args.args.now) (coded_in c.args.self.now.fragments.now.nodes.items c.args.to.coded)) (λ what k. called_as k (with_types c.args.self.now.withs.now) (exprs (map expr_view c.args.args.now)) what) r told_first (described r (coding_after (λ k. passed k (with_types c.args.self.now.withs.now) (map parameter_view p.params.items) (exprs (map expr_view c.args.args.now))) (λ codes k. gives (call_coded k.scene (map parameter_view p.params.items) (part (c.called.new.self.fragments.now.nodes.items) p.before) p.instr p.result p.more codes)) r two
+    (described r (rw c.called.ensures.keeps.site at (rw c.passed.ensures.keeps.site at c.call_coded.ensures.codes)) (λ k. ap (λ (before : Part). gives (call_coded k.scene (map parameter_view p.params.items) before p.instr p.result p.more (argument_in (c.passed.new.self.fragments.now.nodes.items) c.in-Known-asked.value))) (part_later two.grows p.before (rw c.in-Procedure.is at (stands_after told_first)).before)))) (λ k. ap (λ (w : Callable). called_as k (with_types c.args.self.now.withs.now) (exprs (map expr_view c.args.args.now)) (called_in c.called.new.self.fragments.now.nodes.items w)) (sym c.in-Procedure.is))))
     (λ k. ap (λ (n : ℕ). and_then (called k c.args.is_wanted c.args.to.at n (coded_in c.args.self.now.fragments.now.nodes.items c.args.to.coded)) (λ what. called_as k (with_types c.args.self.now.withs.now) (exprs (map expr_view c.args.args.now)) what)) (count_given expr_view c.args.args.now))
 
 pub called_with-passed-requires-in-Lacking : goal.called_with-passed-requires-in-Lacking
-called_with-passed-requires-in-Lacking g t c κs within = (search rules, (within, ((rw c.called.ensures.keeps.site (suits_after (rw c.in-Known.is at c.in-Ok.ensures.codes) c.requires.suits)), ((rw c.called.ensures.keeps.withs (open_after (rw c.in-Known.is at c.in-Ok.ensures.codes) c.args.self.now.withs.now c.requires.withs)), (rw c.deref-in-Lacking.ensures.value (rw c.in-Lacking.is at (stands_after (rw c.in-Known.is at c.in-Ok.ensures.codes))), (rw c.called.ensures.keeps.site c.requires.read))))))
+called_with-passed-requires-in-Lacking g t c κs within =
+    let told_first = rw c.in-Known.is at c.in-Ok.ensures.codes in
+    (search rules, (within, ((rw c.called.ensures.keeps.site (suits_after told_first c.requires.suits)), ((rw c.called.ensures.keeps.withs (open_after told_first c.args.self.now.withs.now c.requires.withs)), (rw c.deref-in-Lacking.ensures.value (rw c.in-Lacking.is at (stands_after told_first)), (rw c.called.ensures.keeps.site c.requires.read))))))
 
 pub called_with-returns-in-DontKnowYet-asked-2-clause-codes : goal.called_with-returns-in-DontKnowYet-asked-2-clause-codes
 called_with-returns-in-DontKnowYet-asked-2-clause-codes g t c = unknown_after (rw c.in-Known.is at c.in-Ok.ensures.codes) (rw c.called.ensures.keeps.withs at (rw c.called.ensures.keeps.site at (rw c.in-DontKnowYet-asked-2.is at c.in-Ok-passed-2.ensures.codes)))
@@ -293,7 +303,9 @@ called_with-returns-in-Lacking-clause-codes g t c =
     (λ k. ap (λ (n : ℕ). and_then (called k c.args.is_wanted c.args.to.at n (coded_in c.args.self.now.fragments.now.nodes.items c.args.to.coded)) (λ what. called_as k (with_types c.args.self.now.withs.now) (exprs (map expr_view c.args.args.now)) what)) (count_given expr_view c.args.args.now))
 
 pub called_with-looked_at-requires : goal.called_with-looked_at-requires
-called_with-looked_at-requires g t c κs within = (search rules, (within, ((rw c.called.ensures.keeps.site (suits_after (rw c.in-Known.is at c.in-Ok.ensures.codes) c.requires.suits)), ((rw c.called.ensures.keeps.withs (open_after (rw c.in-Known.is at c.in-Ok.ensures.codes) c.args.self.now.withs.now c.requires.withs)), (rw c.called.ensures.keeps.site c.requires.read)))))
+called_with-looked_at-requires g t c κs within =
+    let told_first = rw c.in-Known.is at c.in-Ok.ensures.codes in
+    (search rules, (within, ((rw c.called.ensures.keeps.site (suits_after told_first c.requires.suits)), ((rw c.called.ensures.keeps.withs (open_after told_first c.args.self.now.withs.now c.requires.withs)), (rw c.called.ensures.keeps.site c.requires.read)))))
 
 pub called_with-returns-clause-codes : goal.called_with-returns-clause-codes
 called_with-returns-clause-codes g t c =
@@ -318,7 +330,8 @@ designated-loop-selector-init g t c = (
 
 pub designated-select-requires : goal.designated-select-requires
 designated-select-requires g t c κs within =
-    ((let small = item_small size-Selector c.deref-rest.result.now c.loop-selector.selector-index c.selector-item.result c.loop-selector-test.true c.selector-item.is in let rest = rest_smaller c.args.of.now in let same = ap (most size-Selector) c.deref-rest.ensures.value in omega (arith, small, rest, same, c.decreases)), (within, ((rw c.loop-selector.invariant.0.site (suits_after c.loop-selector.invariant.1 (suits_after (rw c.in-Known.is at c.in-Ok.ensures.codes) c.requires.suits))), ((rw c.loop-selector.invariant.0.withs (open_after c.loop-selector.invariant.1 c.args.self.now.withs.now (open_after (rw c.in-Known.is at c.in-Ok.ensures.codes) c.args.self.now.withs.now c.requires.withs))), (stands_after c.loop-selector.invariant.1, (rw c.loop-selector.invariant.0.site (read_selector c.args.self.now.site.now.texts.now.names selector_view c.deref-rest.result.now c.loop-selector.selector-index c.selector-item.result c.loop-selector-test.true c.selector-item.is (rw c.deref-rest.ensures.value (designator_read c.args.self.now.site.now.texts.now.names c.args.of.now c.requires.read).1))))))))
+    let told_first = rw c.in-Known.is at c.in-Ok.ensures.codes in
+    ((let small = item_small size-Selector c.deref-rest.result.now c.loop-selector.selector-index c.selector-item.result c.loop-selector-test.true c.selector-item.is in let rest = rest_smaller c.args.of.now in let same = ap (most size-Selector) c.deref-rest.ensures.value in omega (arith, small, rest, same, c.decreases)), (within, ((rw c.loop-selector.invariant.0.site (suits_after c.loop-selector.invariant.1 (suits_after told_first c.requires.suits))), ((rw c.loop-selector.invariant.0.withs (open_after c.loop-selector.invariant.1 c.args.self.now.withs.now (open_after told_first c.args.self.now.withs.now c.requires.withs))), (stands_after c.loop-selector.invariant.1, (rw c.loop-selector.invariant.0.site (read_selector c.args.self.now.site.now.texts.now.names selector_view c.deref-rest.result.now c.loop-selector.selector-index c.selector-item.result c.loop-selector-test.true c.selector-item.is (rw c.deref-rest.ensures.value (designator_read c.args.self.now.site.now.texts.now.names c.args.of.now c.requires.read).1))))))))
 
 pub designated-loop-selector-preserved : goal.designated-loop-selector-preserved
 designated-loop-selector-preserved g t c = (
@@ -526,7 +539,8 @@ expression-returns-in-Err-clause-codes g t c = unmade c.in-Err.ensures.codes _
 
 pub expression-set_of-requires-in-Some : goal.expression-set_of-requires-in-Some
 expression-set_of-requires-in-Some g t c κs within =
-    ((let small = set_smaller c.args.e.now c.in-Set.of c.in-Set.items c.in-Set.is in let same = ap (most size-Label) c.deref-in-Some.ensures.value in omega (arith, small, same, c.decreases)), (within, ((rw c.set_type.ensures.keeps.site (suits_after (rw c.in-Known.is at c.in-Ok.ensures.codes) c.requires.suits)), ((rw c.set_type.ensures.keeps.withs (open_after (rw c.in-Known.is at c.in-Ok.ensures.codes) c.args.self.now.withs.now c.requires.withs)), (stands_after (rw c.in-Known.is at c.in-Ok.ensures.codes), (rw c.set_type.ensures.keeps.site (rw c.deref-in-Some.ensures.value (form_read c.args.self.now.site.now.texts.now.names c.args.e.now (Set (Some c.in-Some.name) c.in-Set.items) _ (c.in-Set.is ∙ ap (λ o. Set o c.in-Set.items) c.in-Some.is) (typed_set_seen c.in-Some.name c.in-Set.items) c.requires.read).1)))))))
+    let told_first = rw c.in-Known.is at c.in-Ok.ensures.codes in
+    ((let small = set_smaller c.args.e.now c.in-Set.of c.in-Set.items c.in-Set.is in let same = ap (most size-Label) c.deref-in-Some.ensures.value in omega (arith, small, same, c.decreases)), (within, ((rw c.set_type.ensures.keeps.site (suits_after told_first c.requires.suits)), ((rw c.set_type.ensures.keeps.withs (open_after told_first c.args.self.now.withs.now c.requires.withs)), (stands_after told_first, (rw c.set_type.ensures.keeps.site (rw c.deref-in-Some.ensures.value (form_read c.args.self.now.site.now.texts.now.names c.args.e.now (Set (Some c.in-Some.name) c.in-Set.items) _ (c.in-Set.is ∙ ap (λ o. Set o c.in-Set.items) c.in-Some.is) (typed_set_seen c.in-Some.name c.in-Set.items) c.requires.read).1)))))))
 
 pub expression-returns-in-Known-clause-codes : goal.expression-returns-in-Known-clause-codes
 expression-returns-in-Known-clause-codes g t c =
@@ -574,7 +588,8 @@ expression-returns-in-Err-value_of-2-clause-codes g t c = unmade c.in-Err-value_
 
 pub expression-continued-requires : goal.expression-continued-requires
 expression-continued-requires g t c κs within =
-    ((let small = nexts_smaller c.args.e.now c.in-Many.first c.in-Many.rest c.in-Many.is in let same = ap (most size-Next) c.deref-in-Many-3.ensures.value in omega (arith, small, same, c.decreases)), (within, ((rw c.value_of-in-Many.ensures.keeps.site (suits_after (rw c.in-Known-asked-3.is at c.in-Ok-value_of-2.ensures.codes) c.requires.suits)), ((rw c.value_of-in-Many.ensures.keeps.withs (open_after (rw c.in-Known-asked-3.is at c.in-Ok-value_of-2.ensures.codes) c.args.self.now.withs.now c.requires.withs)), (stands_after (rw c.in-Known-asked-3.is at c.in-Ok-value_of-2.ensures.codes), (rw c.value_of-in-Many.ensures.keeps.site (rw c.deref-in-Many-3.ensures.value (form_read c.args.self.now.site.now.texts.now.names c.args.e.now _ _ c.in-Many.is (many_seen c.in-Many.first c.in-Many.rest) c.requires.read).1)))))))
+    let told_first = rw c.in-Known-asked-3.is at c.in-Ok-value_of-2.ensures.codes in
+    ((let small = nexts_smaller c.args.e.now c.in-Many.first c.in-Many.rest c.in-Many.is in let same = ap (most size-Next) c.deref-in-Many-3.ensures.value in omega (arith, small, same, c.decreases)), (within, ((rw c.value_of-in-Many.ensures.keeps.site (suits_after told_first c.requires.suits)), ((rw c.value_of-in-Many.ensures.keeps.withs (open_after told_first c.args.self.now.withs.now c.requires.withs)), (stands_after told_first, (rw c.value_of-in-Many.ensures.keeps.site (rw c.deref-in-Many-3.ensures.value (form_read c.args.self.now.site.now.texts.now.names c.args.e.now _ _ c.in-Many.is (many_seen c.in-Many.first c.in-Many.rest) c.requires.read).1)))))))
 
 pub expression-returns-in-Known-asked-3-clause-codes : goal.expression-returns-in-Known-asked-3-clause-codes
 expression-returns-in-Known-asked-3-clause-codes g t c =
@@ -633,7 +648,9 @@ standard-returns-in-Err-first_of_two-clause-codes g t c = unmade_after (rw c.in-
 
 pub standard-expression-requires-in-len2-up-2 : goal.standard-expression-requires-in-len2-up-2
 standard-expression-requires-in-len2-up-2 g t c κs within =
-    ((let small = item_small size-Expr c.args.args.now 1 c.other-item.result (omega (arith, c.in-len2-up.len_at_least)) c.other-item.is in omega (arith, small, c.decreases)), (within, ((rw c.first_of_two.ensures.keeps.site (suits_after (rw c.in-Known-asked-2.is at c.in-Ok-first_of_two.ensures.codes) (rw c.expression-in-len2-up.ensures.keeps.site (suits_after (rw c.in-Known-asked.is at c.in-Ok-expression.ensures.codes) c.requires.suits)))), ((rw c.first_of_two.ensures.keeps.withs (open_after (rw c.in-Known-asked-2.is at c.in-Ok-first_of_two.ensures.codes) c.expression-in-len2-up.new.self.withs.now (rw c.expression-in-len2-up.ensures.keeps.withs (open_after (rw c.in-Known-asked.is at c.in-Ok-expression.ensures.codes) c.args.self.now.withs.now c.requires.withs)))), (rw c.first_of_two.ensures.keeps.site (rw c.expression-in-len2-up.ensures.keeps.site (read_expr c.args.self.now.site.now.texts.now.names expr_view c.args.args.now 1 c.other-item.result (omega (arith, c.in-len2-up.len_at_least)) c.other-item.is c.requires.read)))))))
+    let told_next = rw c.in-Known-asked.is at c.in-Ok-expression.ensures.codes in
+    let told_first = rw c.in-Known-asked-2.is at c.in-Ok-first_of_two.ensures.codes in
+    ((let small = item_small size-Expr c.args.args.now 1 c.other-item.result (omega (arith, c.in-len2-up.len_at_least)) c.other-item.is in omega (arith, small, c.decreases)), (within, ((rw c.first_of_two.ensures.keeps.site (suits_after told_first (rw c.expression-in-len2-up.ensures.keeps.site (suits_after told_next c.requires.suits)))), ((rw c.first_of_two.ensures.keeps.withs (open_after told_first c.expression-in-len2-up.new.self.withs.now (rw c.expression-in-len2-up.ensures.keeps.withs (open_after told_next c.args.self.now.withs.now c.requires.withs)))), (rw c.first_of_two.ensures.keeps.site (rw c.expression-in-len2-up.ensures.keeps.site (read_expr c.args.self.now.site.now.texts.now.names expr_view c.args.args.now 1 c.other-item.result (omega (arith, c.in-len2-up.len_at_least)) c.other-item.is c.requires.read)))))))
 
 pub standard-returns-in-DontKnowYet-asked-3-clause-codes : goal.standard-returns-in-DontKnowYet-asked-3-clause-codes
 standard-returns-in-DontKnowYet-asked-3-clause-codes g t c =
@@ -742,7 +759,8 @@ expression-returns-in-Err-designated-clause-codes g t c = unmade c.in-Err-design
 
 pub expression-called_with-requires : goal.expression-called_with-requires
 expression-called_with-requires g t c κs within =
-    ((let small = arguments_smaller c.args.e.now c.in-Call.to c.in-Call.args c.in-Call.is in let same = ap (most size-Expr) c.deref-in-Call.ensures.value in omega (arith, small, same, c.decreases)), (within, ((rw c.designated-in-Call.ensures.keeps.site (suits_after (rw c.in-Known-asked.is at c.in-Ok-designated.ensures.codes) c.requires.suits)), ((rw c.designated-in-Call.ensures.keeps.withs (open_after (rw c.in-Known-asked.is at c.in-Ok-designated.ensures.codes) c.args.self.now.withs.now c.requires.withs)), (stands_after (rw c.in-Known-asked.is at c.in-Ok-designated.ensures.codes), (rw c.designated-in-Call.ensures.keeps.site (rw c.deref-in-Call.ensures.value (form_read c.args.self.now.site.now.texts.now.names c.args.e.now _ _ c.in-Call.is (call_seen c.in-Call.to c.in-Call.args) c.requires.read).1)))))))
+    let told_first = rw c.in-Known-asked.is at c.in-Ok-designated.ensures.codes in
+    ((let small = arguments_smaller c.args.e.now c.in-Call.to c.in-Call.args c.in-Call.is in let same = ap (most size-Expr) c.deref-in-Call.ensures.value in omega (arith, small, same, c.decreases)), (within, ((rw c.designated-in-Call.ensures.keeps.site (suits_after told_first c.requires.suits)), ((rw c.designated-in-Call.ensures.keeps.withs (open_after told_first c.args.self.now.withs.now c.requires.withs)), (stands_after told_first, (rw c.designated-in-Call.ensures.keeps.site (rw c.deref-in-Call.ensures.value (form_read c.args.self.now.site.now.texts.now.names c.args.e.now _ _ c.in-Call.is (call_seen c.in-Call.to c.in-Call.args) c.requires.read).1)))))))
 
 pub expression-returns-in-Known-asked-clause-codes : goal.expression-returns-in-Known-asked-clause-codes
 expression-returns-in-Known-asked-clause-codes g t c =
@@ -920,3 +938,177 @@ looked_at-returns-in-Err-clause-keeps g t c = Keeps-trans c.loop-e.invariant.0 c
 pub next_passed-returns-in-Known-asked-clause-keeps : goal.next_passed-returns-in-Known-asked-clause-keeps
 next_passed-returns-in-Known-asked-clause-keeps g t c =
     let k = Keeps-trans c.expression.ensures.keeps c.argument.ensures.keeps in record { site = k.site; withs = k.withs; scopes = k.scopes; fragments = k.fragments; notes = k.notes }
+
+pub value_of-returns-in-DontKnowYet-clause-keeps : goal.value_of-returns-in-DontKnowYet-clause-keeps
+value_of-returns-in-DontKnowYet-clause-keeps g t c = c.expression.ensures.keeps
+
+pub value_of-returns-in-Err-clause-keeps : goal.value_of-returns-in-Err-clause-keeps
+value_of-returns-in-Err-clause-keeps g t c = c.expression.ensures.keeps
+
+pub member-returns-in-DontKnowYet-clause-keeps : goal.member-returns-in-DontKnowYet-clause-keeps
+member-returns-in-DontKnowYet-clause-keeps g t c = c.value_of.ensures.keeps
+
+pub member-returns-in-Err-clause-keeps : goal.member-returns-in-Err-clause-keeps
+member-returns-in-Err-clause-keeps g t c = c.value_of.ensures.keeps
+
+pub member-returns-in-DontKnowYet-asked-clause-keeps : goal.member-returns-in-DontKnowYet-asked-clause-keeps
+member-returns-in-DontKnowYet-asked-clause-keeps g t c = let k = c.value_of.ensures.keeps in record { site = k.site; withs = k.withs; scopes = k.scopes; fragments = k.fragments; notes = k.notes }
+
+pub member-returns-in-Err-taken-clause-keeps : goal.member-returns-in-Err-taken-clause-keeps
+member-returns-in-Err-taken-clause-keeps g t c = let k = c.value_of.ensures.keeps in record { site = k.site; withs = k.withs; scopes = k.scopes; fragments = k.fragments; notes = k.notes }
+
+pub member-returns-in-InError-clause-keeps : goal.member-returns-in-InError-clause-keeps
+member-returns-in-InError-clause-keeps g t c = let k = c.value_of.ensures.keeps in record { site = k.site; withs = k.withs; scopes = k.scopes; fragments = k.fragments; notes = k.notes }
+
+pub member-returns-in_default-clause-keeps : goal.member-returns-in_default-clause-keeps
+member-returns-in_default-clause-keeps g t c = let k = c.value_of.ensures.keeps in record { site = k.site; withs = k.withs; scopes = k.scopes; fragments = k.fragments; notes = k.notes }
+
+pub set_type-returns-in-DontKnowYet-clause-keeps : goal.set_type-returns-in-DontKnowYet-clause-keeps
+set_type-returns-in-DontKnowYet-clause-keeps g t c = c.designated.ensures.keeps
+
+pub set_type-returns-in-Err-clause-keeps : goal.set_type-returns-in-Err-clause-keeps
+set_type-returns-in-Err-clause-keeps g t c = c.designated.ensures.keeps
+
+pub set_type-returns-clause-keeps : goal.set_type-returns-clause-keeps
+set_type-returns-clause-keeps g t c = let k = c.designated.ensures.keeps in record { site = k.site; withs = k.withs; scopes = k.scopes; fragments = k.fragments; notes = k.notes }
+
+pub range_to-returns-in-DontKnowYet-clause-keeps : goal.range_to-returns-in-DontKnowYet-clause-keeps
+range_to-returns-in-DontKnowYet-clause-keeps g t c = c.member.ensures.keeps
+
+pub range_to-returns-in-Err-clause-keeps : goal.range_to-returns-in-Err-clause-keeps
+range_to-returns-in-Err-clause-keeps g t c = c.member.ensures.keeps
+
+pub element-returns-in-DontKnowYet-clause-keeps : goal.element-returns-in-DontKnowYet-clause-keeps
+element-returns-in-DontKnowYet-clause-keeps g t c = c.member.ensures.keeps
+
+pub element-returns-in-Err-clause-keeps : goal.element-returns-in-Err-clause-keeps
+element-returns-in-Err-clause-keeps g t c = c.member.ensures.keeps
+
+pub designated-returns-in-DontKnowYet-clause-keeps : goal.designated-returns-in-DontKnowYet-clause-keeps
+designated-returns-in-DontKnowYet-clause-keeps g t c = c.name_coded.ensures.keeps
+
+pub designated-returns-in-Err-clause-keeps : goal.designated-returns-in-Err-clause-keeps
+designated-returns-in-Err-clause-keeps g t c = c.name_coded.ensures.keeps
+
+pub designated-returns-clause-keeps : goal.designated-returns-clause-keeps
+designated-returns-clause-keeps g t c = c.loop-selector.invariant.0
+
+pub continued-returns-clause-keeps : goal.continued-returns-clause-keeps
+continued-returns-clause-keeps g t c = c.loop-next.invariant.0
+
+pub elements-returns-clause-keeps : goal.elements-returns-clause-keeps
+elements-returns-clause-keeps g t c = c.loop-label.invariant.0
+
+pub indexed-returns-clause-keeps : goal.indexed-returns-clause-keeps
+indexed-returns-clause-keeps g t c = c.loop-e.invariant.0
+
+pub looked_at-returns-clause-keeps : goal.looked_at-returns-clause-keeps
+looked_at-returns-clause-keeps g t c = c.loop-e.invariant.0
+
+pub passed-returns-clause-keeps : goal.passed-returns-clause-keeps
+passed-returns-clause-keeps g t c = c.loop-e.invariant.0
+
+pub next_passed-returns-in-DontKnowYet-clause-keeps : goal.next_passed-returns-in-DontKnowYet-clause-keeps
+next_passed-returns-in-DontKnowYet-clause-keeps g t c = c.expression.ensures.keeps
+
+pub next_passed-returns-in-Err-clause-keeps : goal.next_passed-returns-in-Err-clause-keeps
+next_passed-returns-in-Err-clause-keeps g t c = c.expression.ensures.keeps
+
+pub next_passed-returns-in-None-clause-keeps : goal.next_passed-returns-in-None-clause-keeps
+next_passed-returns-in-None-clause-keeps g t c = Keeps-refl _
+
+pub called_with-returns-in-DontKnowYet-clause-keeps : goal.called_with-returns-in-DontKnowYet-clause-keeps
+called_with-returns-in-DontKnowYet-clause-keeps g t c = c.called.ensures.keeps
+
+pub called_with-returns-in-Err-clause-keeps : goal.called_with-returns-in-Err-clause-keeps
+called_with-returns-in-Err-clause-keeps g t c = c.called.ensures.keeps
+
+pub select-returns-in-Field-clause-keeps : goal.select-returns-in-Field-clause-keeps
+select-returns-in-Field-clause-keeps g t c = c.select_field.ensures.keeps
+
+pub select-returns-in-Deref-clause-keeps : goal.select-returns-in-Deref-clause-keeps
+select-returns-in-Deref-clause-keeps g t c = c.select_target.ensures.keeps
+
+pub select-returns-in-Index-clause-keeps : goal.select-returns-in-Index-clause-keeps
+select-returns-in-Index-clause-keeps g t c = c.indexed.ensures.keeps
+
+pub standard-returns-in-DontKnowYet-clause-keeps : goal.standard-returns-in-DontKnowYet-clause-keeps
+standard-returns-in-DontKnowYet-clause-keeps g t c = c.expression.ensures.keeps
+
+pub standard-returns-in-Err-clause-keeps : goal.standard-returns-in-Err-clause-keeps
+standard-returns-in-Err-clause-keeps g t c = c.expression.ensures.keeps
+
+pub standard-returns-in-DontKnowYet-asked-clause-keeps : goal.standard-returns-in-DontKnowYet-asked-clause-keeps
+standard-returns-in-DontKnowYet-asked-clause-keeps g t c = c.expression-in-len2-up.ensures.keeps
+
+pub standard-returns-in-Err-expression-clause-keeps : goal.standard-returns-in-Err-expression-clause-keeps
+standard-returns-in-Err-expression-clause-keeps g t c = c.expression-in-len2-up.ensures.keeps
+
+pub expression-returns-in-DontKnowYet-clause-keeps : goal.expression-returns-in-DontKnowYet-clause-keeps
+expression-returns-in-DontKnowYet-clause-keeps g t c = c.set_type.ensures.keeps
+
+pub expression-returns-in-Err-clause-keeps : goal.expression-returns-in-Err-clause-keeps
+expression-returns-in-Err-clause-keeps g t c = c.set_type.ensures.keeps
+
+pub expression-returns-in-DontKnowYet-asked-clause-keeps : goal.expression-returns-in-DontKnowYet-asked-clause-keeps
+expression-returns-in-DontKnowYet-asked-clause-keeps g t c = c.designated-in-Call.ensures.keeps
+
+pub expression-returns-in-Err-designated-clause-keeps : goal.expression-returns-in-Err-designated-clause-keeps
+expression-returns-in-Err-designated-clause-keeps g t c = c.designated-in-Call.ensures.keeps
+
+pub expression-returns-in-DontKnowYet-asked-2-clause-keeps : goal.expression-returns-in-DontKnowYet-asked-2-clause-keeps
+expression-returns-in-DontKnowYet-asked-2-clause-keeps g t c = c.value_of.ensures.keeps
+
+pub expression-returns-in-Err-value_of-clause-keeps : goal.expression-returns-in-Err-value_of-clause-keeps
+expression-returns-in-Err-value_of-clause-keeps g t c = c.value_of.ensures.keeps
+
+pub expression-returns-in-DontKnowYet-asked-3-clause-keeps : goal.expression-returns-in-DontKnowYet-asked-3-clause-keeps
+expression-returns-in-DontKnowYet-asked-3-clause-keeps g t c = c.value_of-in-Many.ensures.keeps
+
+pub expression-returns-in-Err-value_of-2-clause-keeps : goal.expression-returns-in-Err-value_of-2-clause-keeps
+expression-returns-in-Err-value_of-2-clause-keeps g t c = c.value_of-in-Many.ensures.keeps
+
+pub expression-returns-in-Name-clause-keeps : goal.expression-returns-in-Name-clause-keeps
+expression-returns-in-Name-clause-keeps g t c = c.designated.ensures.keeps
+
+pub expression-returns-in-None-clause-keeps : goal.expression-returns-in-None-clause-keeps
+expression-returns-in-None-clause-keeps g t c = c.set_of.ensures.keeps
+
+pub expression-returns-in-Number-clause-keeps : goal.expression-returns-in-Number-clause-keeps
+expression-returns-in-Number-clause-keeps g t c = Keeps-refl _
+
+pub expression-returns-in-Char-clause-keeps : goal.expression-returns-in-Char-clause-keeps
+expression-returns-in-Char-clause-keeps g t c = Keeps-refl _
+
+pub expression-returns-in-Str-clause-keeps : goal.expression-returns-in-Str-clause-keeps
+expression-returns-in-Str-clause-keeps g t c = Keeps-refl _
+
+pub called_with-called-requires-clause-suits : goal.called_with-called-requires-clause-suits
+called_with-called-requires-clause-suits g t c = c.requires.suits
+
+pub called_with-called-requires-clause-x : goal.called_with-called-requires-clause-x
+called_with-called-requires-clause-x g t c = c.requires.to
+
+pub designated-name_coded-requires-clause-suits : goal.designated-name_coded-requires-clause-suits
+designated-name_coded-requires-clause-suits g t c = c.requires.suits
+
+pub designated-name_coded-requires-clause-withs : goal.designated-name_coded-requires-clause-withs
+designated-name_coded-requires-clause-withs g t c = c.requires.withs
+
+pub select-select_field-requires-clause-suits : goal.select-select_field-requires-clause-suits
+select-select_field-requires-clause-suits g t c = c.requires.suits
+
+pub select-select_field-requires-clause-x : goal.select-select_field-requires-clause-x
+select-select_field-requires-clause-x g t c = c.requires.x
+
+pub select-select_target-requires-clause-suits : goal.select-select_target-requires-clause-suits
+select-select_target-requires-clause-suits g t c = c.requires.suits
+
+pub select-select_target-requires-clause-x : goal.select-select_target-requires-clause-x
+select-select_target-requires-clause-x g t c = c.requires.x
+
+pub set_of-set_start-requires-clause-suits : goal.set_of-set_start-requires-clause-suits
+set_of-set_start-requires-clause-suits g t c = c.requires.suits
+
+pub set_of-set_start-requires-clause-of : goal.set_of-set_start-requires-clause-of
+set_of-set_start-requires-clause-of g t c = c.requires.of

@@ -8,10 +8,9 @@ use Rattle.type_rules.proofs.Reading.{Reads-trans, Waits_read}
 use Rattle.expr_sem.specs.Codings.{coded_in}
 use Rattle.expr_sem.specs.Fragments.{part}
 use Rattle.block_code.specs.Parts.{Part, ◌⨟◌}
-use Rattle.expr_sem.proofs.ArgumentCases.{alike_other, alike_same, passed}
-use Rattle.expr_sem.proofs.Following.{by_coding, by_question, followed_by, then_full, then_unknown, then_wanted}
+use Rattle.expr_sem.proofs.ArgumentCases.{alike_other, alike_same}
+use Rattle.expr_sem.proofs.Following.{by_question, then_unknown, then_wanted}
 use Rattle.expr_sem.proofs.Making.{after_question, question_waits}
-use Rattle.expr_sem.proofs.Onwards.{with_fragment}
 use Rattle.expr_sem.proofs.Sequencing.{part_later}
 use Rattle.expr_sem.proofs.coder.Coder.alike.Goals as goal
 use Rattle.m2_base.specs.States.{Frame}
@@ -21,6 +20,9 @@ use Rattle.type_rules.proofs.Later.{IsThere_read, Suits_read}
 use Rattle.const_eval.proofs.Later.{SuitsSite_read}
 use Rattle.expr_sem.specs.Codings.{IsCoded}
 use Rattle.expr_sem.proofs.ArgumentCases.{alike_broken, none_passed}
+use Rattle.m2_base.specs.Gives.{gives}
+use Rattle.expr_sem.proofs.Operating.{coding_after}
+use Rattle.expr_sem.proofs.Sequencing.{Grows-refl, made_after}
 use Rattle.expr_sem.proofs.Selecting.{stays_read}
 
 pub returns-in-DontKnowYet-same-clause-codes : goal.returns-in-DontKnowYet-same-clause-codes
@@ -34,22 +36,19 @@ returns-in-DontKnowYet-asked-clause-codes g c =
 pub returns-in-Err-clause-codes : goal.returns-in-Err-clause-codes
 returns-in-Err-clause-codes g c = then_wanted (by_question _ _ (Reads-trans c.is_broken.ensures.reads c.same.ensures.reads)) (c.in-Err.ensures c.args.self.now.notes.now) c.in-Err.memory
 
-pub returns-in_err-both-clause-codes : goal.returns-in_err-both-clause-codes
-returns-in_err-both-clause-codes g c =
-    then_full c.from_residual.result c.from_residual.ensures.0
-    (followed_by (by_question c.args.self.now.notes.now _ (Reads-trans c.is_broken.ensures.reads c.same.ensures.reads)) (by_coding (c.in-Ok.ensures c.args.self.now.notes.now))) c.in_err-both.ensures.made
-
 pub returns-then-value-2-clause-codes : goal.returns-then-value-2-clause-codes
 returns-then-value-2-clause-codes g c =
     let f = (g.S.Scopes.state c.args.self.now.scopes.now).frame in
     let h = (g.S.Scopes.state c.is_broken.new.scopes).frame in
     let ns = c.args.self.now.fragments.now.nodes.items in
     let ms = c.high_code.new.fragments.nodes.items in
+    let notes = c.args.self.now.notes.now in
     let first = c.is_broken.ensures.reads in
-    let high = rw c.in-Known-asked.is at c.in-Ok.ensures c.args.self.now.notes.now in
+    let high = rw c.in-Known-asked.is at c.in-Ok.ensures notes in
     let same = told_later f h (λ e made. c.in-Known-same.value ≡ is_same (scene_of e made c.args.self.now.site.now.around.now) c.args.element c.args.want) first.keeps.frame c.in-Known-same.ensures.told in
-    after_question (Ok (Known (Some c.in_ok-both.both))) (Reads-trans first c.same.ensures.reads)
-    (passed (with_fragment (λ (q : Part). part ns c.args.x.coded.code ⨟ q) high c.in_ok-both.ensures.made (ap (λ (p : Part). p ⨟ part ms c.in-Known-asked.value) (part_later high.grows c.args.x.coded.code c.requires.x.code))))
+    let both = made_after c.then.result (Grows-refl ms) c.then.ensures.made (ap (λ (p : Part). p ⨟ part ms c.in-Known-asked.value) (part_later high.grows c.args.x.coded.code c.requires.x.code)) in
+    after_question c.passed_as.result (Reads-trans first c.same.ensures.reads)
+    (coding_after _ (λ (q : Part) k. gives (Some (part ns c.args.x.coded.code ⨟ q))) c.passed_as.result high (c.passed_as.ensures (g.S.Scopes.state c.high_code.new.scopes) notes c.args.self.now.site.now _ _ _ both))
     (λ made in_hand told. alike_same (context_of f made c.args.self.now.site.now) c.args.want c.args.x.at (coded_in ns c.args.x.coded) c.args.kind c.args.element
     (sym (c.in-Known.ensures.told made in_hand told) ∙ c.if-value.false) (sym (same made in_hand told) ∙ c.if-value-2.true))
 
@@ -112,9 +111,6 @@ returns-in-DontKnowYet-asked-clause-keeps g c = record { site = refl; withs = re
 
 pub returns-in-Err-clause-keeps : goal.returns-in-Err-clause-keeps
 returns-in-Err-clause-keeps g c = record { site = refl; withs = refl; scopes = refl; fragments = refl; notes = refl }
-
-pub returns-in_err-both-clause-keeps : goal.returns-in_err-both-clause-keeps
-returns-in_err-both-clause-keeps g c = record { site = refl; withs = refl; scopes = refl; fragments = refl; notes = refl }
 
 pub returns-then-value-2-clause-keeps : goal.returns-then-value-2-clause-keeps
 returns-then-value-2-clause-keeps g c = record { site = refl; withs = refl; scopes = refl; fragments = refl; notes = refl }

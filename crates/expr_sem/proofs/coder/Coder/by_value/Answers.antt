@@ -12,8 +12,8 @@ use Rattle.block_code.specs.Coded.{characters as spec_characters}
 use Rattle.expr_sem.specs.Codings.{coded_in}
 use Rattle.block_code.specs.Values.{assigned_to as spec_assigned_to}
 use Rattle.expr_sem.proofs.ArgumentCases.{other_argument, passed}
-use Rattle.expr_sem.proofs.Following.{by_coding, by_question, followed_by, holds, still_around, still_suits, then_failed, then_full, then_unknown, then_waits, then_wanted}
-use Rattle.expr_sem.proofs.Making.{fragment_told}
+use Rattle.expr_sem.proofs.Following.{by_coding, by_question, followed_by, holds, still_around, still_suits, then_failed, then_unknown, then_waits, then_wanted}
+use Rattle.expr_sem.proofs.Making.{after_question}
 use Rattle.expr_sem.proofs.Operating.{coding_after, described, unknown, unmade, value_alone}
 use Rattle.expr_sem.proofs.Sequencing.{Grows-refl, made_after}
 use Rattle.expr_sem.proofs.Walking.{stands_after}
@@ -45,11 +45,6 @@ pub returns-in_err-bytes-in-StringConstant-clause-codes : goal.returns-in_err-by
 returns-in_err-bytes-in-StringConstant-clause-codes g c =
     then_failed c.from_residual.result c.from_residual.ensures.0 (followed_by (by_coding c.in-Ok.ensures.codes) (by_question _ _ c.size_of.ensures.reads))
 
-pub returns-in_err-copy-in-StringConstant-clause-codes : goal.returns-in_err-copy-in-StringConstant-clause-codes
-returns-in_err-copy-in-StringConstant-clause-codes g c =
-    then_full c.from_residual-in_err-copy-in-StringConstant.result c.from_residual-in_err-copy-in-StringConstant.ensures.0 (followed_by (by_coding c.in-Ok.ensures.codes) (by_question _ _ c.size_of.ensures.reads))
-    c.in_err-copy-in-StringConstant.ensures.made
-
 pub fitted_code-requires : goal.fitted_code-requires
 fitted_code-requires g c =
     let first = rw c.in-Known.is at c.in-Ok.ensures.codes in
@@ -77,19 +72,21 @@ returns-in-InError-clause-codes g c =
     (value_alone (g.S.Scopes.state c.assigned_to.new.self.scopes.now) c.assigned_to.new.self.notes.now ms c.args.self.now.site.now None IsArgument argument_in (λ k. spec_value_argument k c.args.of v) tt
     (λ k. ap (value_argument_by k c.args.of v) (sym c.in-InError.is)))
 
-pub returns-in_ok-copy-in-StringConstant-clause-codes : goal.returns-in_ok-copy-in-StringConstant-clause-codes
-returns-in_ok-copy-in-StringConstant-clause-codes g c =
+pub returns-in_ok-bytes-in-StringConstant-clause-codes : goal.returns-in_ok-bytes-in-StringConstant-clause-codes
+returns-in_ok-bytes-in-StringConstant-clause-codes g c =
     let ns = c.args.self.now.fragments.now.nodes.items in
     let first = rw c.in-Known.is at c.in-Ok.ensures.codes in
     let ms = c.assigned_to.new.self.fragments.now.nodes.items in
     let v = coded_in ms c.in-Known.value in
     let source = source_of c.args.self.now.site.now.texts.now in
-    let copy = c.in_ok-copy-in-StringConstant.copy in
-    coding_after (λ k. spec_assigned_to k c.args.of c.args.x.at not_assignable (coded_in ns c.args.x.coded)) (λ v k. gives (spec_value_argument k c.args.of v)) (Ok (Known (Some copy))) first
-    (described (Ok (Known (Some copy)))
-    (passed (fragment_told c.assigned_to.new.self.notes.now copy (λ k. string_copy (spec_size k.scene c.args.of) (spec_characters k.source c.in-StringConstant.name)) c.size_of.ensures.reads
-    (made_after (Ok copy) (Grows-refl ms) c.in_ok-copy-in-StringConstant.ensures.made (ap (string_copy c.in-Known-size_of.value) ((rw c.assigned_to.ensures.keeps.site at c.in_ok-bytes-in-StringConstant.ensures) source refl)))
-    (λ made in_hand told. ap (λ size. string_copy size (spec_characters source c.in-StringConstant.name)) ((rw c.assigned_to.ensures.keeps.site at c.in-Known-size_of.ensures.told) made in_hand told))))
+    let name = c.in-StringConstant.name in
+    let r = c.passed_as.result in
+    let copy = made_after c.string_copy.result (Grows-refl ms) c.string_copy.ensures.made (ap (string_copy c.in-Known-size_of.value) ((rw c.assigned_to.ensures.keeps.site at c.in_ok-bytes-in-StringConstant.ensures) source refl)) in
+    coding_after (λ k. spec_assigned_to k c.args.of c.args.x.at not_assignable (coded_in ns c.args.x.coded)) (λ v k. gives (spec_value_argument k c.args.of v)) r first
+    (described r
+    (after_question {h = λ k. gives (Some (string_copy (spec_size k.scene c.args.of) (spec_characters k.source name)))} r c.size_of.ensures.reads
+    (c.passed_as.ensures (g.S.Scopes.state c.size_of.new.scopes) c.assigned_to.new.self.notes.now c.args.self.now.site.now _ _ _ copy)
+    (λ made in_hand told. ap (λ size. gives (Some (string_copy size (spec_characters source name)))) ((rw c.assigned_to.ensures.keeps.site at c.in-Known-size_of.ensures.told) made in_hand told)))
     (λ k. ap (λ o. gives (value_argument_by k c.args.of v o)) (sym c.in-StringConstant.is)))
 
 pub returns-in-Known-asked-clause-codes : goal.returns-in-Known-asked-clause-codes

@@ -89,11 +89,11 @@ returns-clause-codes g c =
     let one = (rw c.in-Known-asked.is at c.in-Ok.ensures notes) in
     let reads = Reads-trans c.is_spoilt.ensures.reads c.extent.ensures.reads in
     let there = subst (λ (f : Frame). IsThere f c.args.of) (sym one.works.keeps.frame) (IsThere_read reads c.requires.of) in
-    after_question c.variable_at.result c.is_spoilt.ensures.reads
-    (after_question {h = λ k. gives (coded (Variable c.args.of) (part ns c.args.x.code ⨟ value_code k (coded_in ns c.args.index) ⨟ plain (index_instr (range_of k.scene c.args.indices) (size_of k.scene c.args.of) ∷ [])))} c.variable_at.result c.extent.ensures.reads
-    (described c.variable_at.result
-    (coding_after (λ k. gives (value_code k (coded_in ns c.args.index))) (λ q k. gives (coded (Variable c.args.of) (part ms c.args.x.code ⨟ q ⨟ plain (find ∷ [])))) c.variable_at.result one
-    (c.variable_at.ensures (g.S.Scopes.state c.value_code.new.scopes) notes site _ _ _ there c.applied.ensures))
+    after_question c.answered_as.result c.is_spoilt.ensures.reads
+    (after_question {h = λ k. gives (coded (Variable c.args.of) (part ns c.args.x.code ⨟ value_code k (coded_in ns c.args.index) ⨟ plain (index_instr (range_of k.scene c.args.indices) (size_of k.scene c.args.of) ∷ [])))} c.answered_as.result c.extent.ensures.reads
+    (described c.answered_as.result
+    (coding_after (λ k. gives (value_code k (coded_in ns c.args.index))) (λ q k. gives (coded (Variable c.args.of) (part ms c.args.x.code ⨟ q ⨟ plain (find ∷ [])))) c.answered_as.result one
+    (c.answered_as.ensures (g.S.Scopes.state c.value_code.new.scopes) notes site _ _ _ there c.applied.ensures))
     (λ k. ap (λ r. gives (coded (Variable c.args.of) (r ⨟ value_code k (coded_in ns c.args.index) ⨟ plain (find ∷ [])))) (part_later one.grows c.args.x.code c.requires.x.code)))
     (λ made in_hand told. let k = (context_of (g.S.Scopes.state c.is_spoilt.new.scopes).frame made site) in
     ap (λ i. gives (coded (Variable c.args.of) (part ns c.args.x.code ⨟ value_code k (coded_in ns c.args.index) ⨟ plain (i ∷ []))))

@@ -85,11 +85,11 @@ returns-clause-codes g c =
     let one = (rw c.in-Known-asked.is at c.in-Ok.ensures notes) in
     let reads = Reads-trans c.is_spoilt.ensures.reads c.cells_of.ensures.reads in
     let there = subst (λ (f : Frame). IsThere f c.args.of) (sym one.works.keeps.frame) (IsThere_read reads c.requires.of) in
-    after_question c.variable_at.result c.is_spoilt.ensures.reads
-    (after_question {h = λ k. gives (coded (Variable c.args.of) (part ns c.args.x.code ⨟ high_in ns c.args.x.high ⨟ value_code k (coded_in ns c.args.index) ⨟ plain (IndexOpen (size_of k.scene c.args.of) ∷ [])))} c.variable_at.result c.cells_of.ensures.reads
-    (described c.variable_at.result
-    (coding_after (λ k. gives (value_code k (coded_in ns c.args.index))) (λ q k. gives (coded (Variable c.args.of) (part ms c.args.x.code ⨟ high_in ms c.args.x.high ⨟ q ⨟ plain (IndexOpen size ∷ [])))) c.variable_at.result one
-    (c.variable_at.ensures (g.S.Scopes.state c.value_code.new.scopes) notes site _ _ _ there c.open_code.ensures))
+    after_question c.answered_as.result c.is_spoilt.ensures.reads
+    (after_question {h = λ k. gives (coded (Variable c.args.of) (part ns c.args.x.code ⨟ high_in ns c.args.x.high ⨟ value_code k (coded_in ns c.args.index) ⨟ plain (IndexOpen (size_of k.scene c.args.of) ∷ [])))} c.answered_as.result c.cells_of.ensures.reads
+    (described c.answered_as.result
+    (coding_after (λ k. gives (value_code k (coded_in ns c.args.index))) (λ q k. gives (coded (Variable c.args.of) (part ms c.args.x.code ⨟ high_in ms c.args.x.high ⨟ q ⨟ plain (IndexOpen size ∷ [])))) c.answered_as.result one
+    (c.answered_as.ensures (g.S.Scopes.state c.value_code.new.scopes) notes site _ _ _ there c.open_code.ensures))
     (λ k. ap (λ (y : Coded). gives (coded (Variable c.args.of) (y.code ⨟ y.high ⨟ value_code k (coded_in ns c.args.index) ⨟ plain (IndexOpen size ∷ [])))) (coded_later one.grows c.args.x c.requires.x)))
     (λ made in_hand told. let k = (context_of (g.S.Scopes.state c.is_spoilt.new.scopes).frame made site) in
     ap (λ n. gives (coded (Variable c.args.of) (part ns c.args.x.code ⨟ high_in ns c.args.x.high ⨟ value_code k (coded_in ns c.args.index) ⨟ plain (IndexOpen n ∷ [])))) (c.in-Known-cells_of.ensures.told made in_hand told)))

@@ -44,8 +44,8 @@ returns-clause-codes g c =
     let p = part c.args.self.now.fragments.now.nodes.items c.args.code in
     let t = c.in-Field.of in
     let there = subst (λ m. IsFieldThere (g.S.Scopes.state c.args.self.now.scopes.now).frame m) (sym c.read_row.ensures ∙ c.in-Field.is) c.requires.field.there in
-    after_question c.variable_at.result c.is_broken.ensures.reads
-    (c.variable_at.ensures (g.S.Scopes.state c.is_broken.new.scopes) notes c.args.self.now.site.now _ _ _ (stays_read (λ e. IsThere e t) c.is_broken.ensures.reads there) c.code_behind.ensures)
+    after_question c.answered_as.result c.is_broken.ensures.reads
+    (c.answered_as.ensures (g.S.Scopes.state c.is_broken.new.scopes) notes c.args.self.now.site.now _ _ _ (stays_read (λ e. IsThere e t) c.is_broken.ensures.reads there) c.code_behind.ensures)
     (λ made in_hand told. let k = context_of (g.S.Scopes.state c.args.self.now.scopes.now).frame made c.args.self.now.site.now in
     ap (λ b. gives (if b then in_error else coded (Variable t) (p ⨟ offset_code c.in-Field.offset))) (sym c.if-value.false ∙ c.in-Known.ensures.told made in_hand told)
     ∙ ap (λ m. gives (field_by k.scene p m)) (sym c.in-Field.is ∙ c.read_row.ensures))

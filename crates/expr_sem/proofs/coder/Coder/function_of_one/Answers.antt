@@ -1,4 +1,4 @@
-use Rattle.std.proofs.Common.{ap, sym}
+use Rattle.std.proofs.Common.{ap, sym, refl}
 use Rattle.m2_base.specs.declared.builtins.Builtin.{Builtin}
 use Rattle.expr_sem.specs.Codings.{coded_in}
 use Rattle.block_code.specs.StandardFunctions.{function_of_one}
@@ -53,16 +53,16 @@ pub returns-in-Ord-clause-keeps : goal.returns-in-Ord-clause-keeps
 returns-in-Ord-clause-keeps g c = c.on_value-in-Ord.ensures.keeps
 
 pub returns-in-Size-clause-codes : goal.returns-in-Size-clause-codes
-returns-in-Size-clause-codes g c = described c.size.result c.size.ensures.codes (λ k. ap (λ (f : Builtin). function_of_one k f c.args.at (coded_in c.args.self.now.fragments.now.nodes.items c.args.x)) (sym c.in-Size.is))
+returns-in-Size-clause-codes g c = described c.size_coded.result c.size_coded.ensures (λ k. ap (λ (f : Builtin). function_of_one k f c.args.at (coded_in c.args.self.now.fragments.now.nodes.items c.args.x)) (sym c.in-Size.is))
 
 pub returns-in-Size-clause-keeps : goal.returns-in-Size-clause-keeps
-returns-in-Size-clause-keeps g c = c.size.ensures.keeps
+returns-in-Size-clause-keeps g c = record { site = refl; withs = refl; scopes = refl; fragments = refl; notes = refl }
 
 pub returns-in-High-clause-codes : goal.returns-in-High-clause-codes
-returns-in-High-clause-codes g c = described c.high.result c.high.ensures.codes (λ k. ap (λ (f : Builtin). function_of_one k f c.args.at (coded_in c.args.self.now.fragments.now.nodes.items c.args.x)) (sym c.in-High.is))
+returns-in-High-clause-codes g c = described c.high_coded.result c.high_coded.ensures (λ k. ap (λ (f : Builtin). function_of_one k f c.args.at (coded_in c.args.self.now.fragments.now.nodes.items c.args.x)) (sym c.in-High.is))
 
 pub returns-in-High-clause-keeps : goal.returns-in-High-clause-keeps
-returns-in-High-clause-keeps g c = c.high.ensures.keeps
+returns-in-High-clause-keeps g c = record { site = refl; withs = refl; scopes = refl; fragments = refl; notes = refl }
 
 pub on_value-requires-clause-suits : goal.on_value-requires-clause-suits
 on_value-requires-clause-suits g c = c.requires.suits
@@ -94,17 +94,17 @@ on_value-requires-in-Ord-clause-suits g c = c.requires.suits
 pub on_value-requires-in-Ord-clause-x : goal.on_value-requires-in-Ord-clause-x
 on_value-requires-in-Ord-clause-x g c = c.requires.x
 
-pub size-requires-clause-suits : goal.size-requires-clause-suits
-size-requires-clause-suits g c = c.requires.suits
+pub size_coded-requires-clause-suits : goal.size_coded-requires-clause-suits
+size_coded-requires-clause-suits g c = c.requires.suits
 
-pub size-requires-clause-x : goal.size-requires-clause-x
-size-requires-clause-x g c = c.requires.x
+pub size_coded-requires-clause-x : goal.size_coded-requires-clause-x
+size_coded-requires-clause-x g c = c.requires.x
 
-pub high-requires-clause-suits : goal.high-requires-clause-suits
-high-requires-clause-suits g c = c.requires.suits
+pub high_coded-requires-clause-suits : goal.high_coded-requires-clause-suits
+high_coded-requires-clause-suits g c = c.requires.suits
 
-pub high-requires-clause-x : goal.high-requires-clause-x
-high-requires-clause-x g c = c.requires.x
+pub high_coded-requires-clause-x : goal.high_coded-requires-clause-x
+high_coded-requires-clause-x g c = c.requires.x
 
 pub of_type_coded-requires-clause-suits : goal.of_type_coded-requires-clause-suits
 of_type_coded-requires-clause-suits g c = c.requires.suits
@@ -117,3 +117,9 @@ of_type_coded-requires-in-Max-clause-suits g c = c.requires.suits
 
 pub of_type_coded-requires-in-Max-clause-x : goal.of_type_coded-requires-in-Max-clause-x
 of_type_coded-requires-in-Max-clause-x g c = c.requires.x.operand
+
+pub returns-in-Min-clause-keeps : goal.returns-in-Min-clause-keeps
+returns-in-Min-clause-keeps g c = record { site = refl; withs = refl; scopes = refl; fragments = refl; notes = refl }
+
+pub returns-in-Max-clause-keeps : goal.returns-in-Max-clause-keeps
+returns-in-Max-clause-keeps g c = record { site = refl; withs = refl; scopes = refl; fragments = refl; notes = refl }

@@ -1,5 +1,6 @@
 use Rattle.std.proofs.Common.{◌≡◌, ◌∙◌, ◌∷◌, [], Bool, List, Ok, ap, refl, sym, subst, if◌then◌else◌}
 use Rattle.m2_base.specs.Gives.{gives}
+use Rattle.m2_base.specs.Standard.{broken}
 use Rattle.m2_base.specs.States.{Frame}
 use Rattle.m2_base.specs.Statics.Operands.{operand_type}
 use Rattle.m2_base.specs.Statics.Sets.{set_base}
@@ -19,9 +20,9 @@ use Rattle.expr_sem.specs.Fragments.{part}
 use Rattle.block_code.specs.Parts.{Part}
 use Rattle.block_code.specs.StandardProcedures.{included, member_instrs, no_value, set_member, update}
 use Rattle.expr_sem.specs.Updates.{updated_by}
-use Rattle.expr_sem.proofs.Following.{by_coding, by_question, followed_by, then_full, then_unknown, then_waits, then_wanted}
+use Rattle.expr_sem.proofs.Following.{by_coding, by_question, followed_by, then_unknown, then_waits, then_wanted}
 use Rattle.expr_sem.proofs.Making.{after_question}
-use Rattle.expr_sem.proofs.Onwards.{coded_after, holds_after, in_after, suits_after, with_grown}
+use Rattle.expr_sem.proofs.Onwards.{coded_after, holds_after, in_after, suits_after}
 use Rattle.expr_sem.proofs.Operating.{coding_after, described, unknown, unmade}
 use Rattle.expr_sem.proofs.Quiet.{no_notes}
 use Rattle.expr_sem.proofs.Selecting.{error_alone, stays_read}
@@ -93,36 +94,28 @@ updated-requires-clause-variable g c = in_after (rw c.in-Known-asked.is at c.in-
 pub updated-requires-clause-number : goal.updated-requires-clause-number
 updated-requires-clause-number g c = (rw c.in-Known-asked.is at c.in-Ok-fitted_code.ensures (no_notes c.args.self.now.fragments.now)).there
 
-pub returns-in_err-code-clause-codes : goal.returns-in_err-code-clause-codes
-returns-in_err-code-clause-codes g c =
-    let notes = c.set_member.new.notes in
-    let ns = c.args.self.now.fragments.now.nodes.items in
-    then_full c.from_residual.result c.from_residual.ensures.0
-    (followed_by (followed_by (by_coding (c.in-Ok.ensures ns c.requires.e)) (by_question notes ns c.in-Known-set_base.ensures.reads)) (by_coding (c.in-Ok-fitted_code.ensures notes))) c.in_err-code.ensures
-
 pub returns-clause-codes : goal.returns-clause-codes
 returns-clause-codes g c =
     let notes = c.set_member.new.notes in
     let ns = c.args.self.now.fragments.now.nodes.items in
     let ms = c.fitted_code.new.fragments.nodes.items in
-    let last = c.updated.new.fragments.nodes.items in
+    let r = c.answered_as.result in
     let first = rw c.in-Known.is at c.in-Ok.ensures ns c.requires.e in
     let reads = c.in-Known-set_base.ensures.reads in
     let suits = stays_read (λ (f : Frame). SuitsSite f c.args.self.now.site.now) reads (suits_after first c.requires.suits) in
     let one = rw c.in-Known-asked.is at c.in-Ok-fitted_code.ensures notes in
-    let made = c.in_ok-code.ensures in
+    let there = holds_after one (λ (f : Frame). IsThere f broken) (standard_there suits.around 10) in
     let changes : (Bit ∷ c.match-f.second ∷ []) ≡ member_instrs c.args.f = elim c.match-f.branch [
       | in-Incl w ↦ ap (λ (i : Instr). Bit ∷ i ∷ []) w.second-is ∙ ap member_instrs (sym w.in-Incl.is)
       | in_default w ↦ ap (λ (i : Instr). Bit ∷ i ∷ []) w.second-is ∙ not_included c.args.f w.in_default.not-Incl
     ] in
-    coding_after (λ k. set_member k (coded_in ns c.args.x) c.args.e.at (coded_in ns c.args.e.coded)) (λ v k. gives (included k c.args.f (coded_in ns c.args.x) v)) (Ok (Known c.new.result)) first
-    (described (Ok (Known c.new.result))
-    (after_question {h = λ k. gives (update (coded_in ns c.args.x) (fitted_code k (set_base k (operand_type c.args.x.operand)) (coded_in ns c.in-Known.value)) (member_instrs c.args.f))} (Ok (Known c.new.result)) reads
-    (with_grown (λ p k. update (coded_in ns c.args.x) p (member_instrs c.args.f)) c.new.result one made.grows
-    (c.new.ensures.there _ last (standard_there suits.around 10) made.made.there)
-    (λ k. c.new.ensures.told last ∙ ap (λ (p : Part). coded no_value p) made.made.part_is
-    ∙ ap (λ (p : Part). coded no_value (updated_by p (part ms c.in-Known-asked.value) (Bit ∷ c.match-f.second ∷ []))) (part_later one.grows c.args.x.code c.requires.x.code)
-    ∙ ap (λ (is : List Instr). coded no_value (updated_by (part ns c.args.x.code) (part ms c.in-Known-asked.value) is)) changes))
+    coding_after (λ k. set_member k (coded_in ns c.args.x) c.args.e.at (coded_in ns c.args.e.coded)) (λ v k. gives (included k c.args.f (coded_in ns c.args.x) v)) r first
+    (described r
+    (after_question {h = λ k. gives (update (coded_in ns c.args.x) (fitted_code k (set_base k (operand_type c.args.x.operand)) (coded_in ns c.in-Known.value)) (member_instrs c.args.f))} r reads
+    (coding_after (λ k. gives (fitted_code k c.in-Known-set_base.value (coded_in ns c.in-Known.value))) (λ p k. gives (update (coded_in ns c.args.x) p (member_instrs c.args.f))) r one
+    (described r (c.answered_as.ensures (g.S.Scopes.state c.fitted_code.new.scopes) notes c.args.self.now.site.now _ _ _ there c.updated.ensures)
+    (λ k. ap (λ (p : Part). gives (coded no_value (updated_by p (part ms c.in-Known-asked.value) (Bit ∷ c.match-f.second ∷ [])))) (part_later one.grows c.args.x.code c.requires.x.code)
+    ∙ ap (λ (is : List Instr). gives (coded no_value (updated_by (part ns c.args.x.code) (part ms c.in-Known-asked.value) is))) changes)))
     (λ made in_hand told. let k = context_of (g.S.Scopes.state c.set_member.new.scopes).frame made c.args.self.now.site.now in
     ap (λ (t : Place). gives (update (coded_in ns c.args.x) (fitted_code k t (coded_in ns c.in-Known.value)) (member_instrs c.args.f)))
     (c.in-Known-set_base.ensures.told made in_hand told ∙ ap (λ (t : Place). set_base k t) c.operand_type.ensures)))

@@ -19,6 +19,11 @@ a_function c New at x h1 h2 h3 h4 = absurd (h3 refl)
 a_function c Dispose at x h1 h2 h3 h4 = absurd (h4 refl)
 a_function c f at x h1 h2 h3 h4 = refl
 
+-- what is left of two
+second : {A B : Type 0} → A ⊎ B → (A → ⊥) → B
+second (inl a) h = absurd (h a)
+second (inr b) h = b
+
 -- a variable is changed by 1
 by_one : (c : Context) (f : Builtin) (at : ℕ) (x : Coded) → (f ≡ Inc) ⊎ (f ≡ Dec) → and_then (ordinal_variable c at x) (λ v. gives (stepped c f v one)) ≡ of_one_argument c f at x
 by_one c f at x is =
@@ -80,30 +85,24 @@ new_room-requires-clause-x g c =
     let first = rw c.in-Known-asked.is at c.in-Ok-variable_argument.ensures c.args.self.now.fragments.now.nodes.items c.requires.x in
     coded_after first c.in-Known-asked.value first.there
 
-pub returns-in-Known-asked-clause-codes : goal.returns-in-Known-asked-clause-codes
-returns-in-Known-asked-clause-codes g c =
+pub disposed-requires : goal.disposed-requires
+disposed-requires g c = (rw c.in-Known-asked.is at c.in-Ok-variable_argument.ensures c.args.self.now.fragments.now.nodes.items c.requires.x).there.code
+
+pub returns-in-New-f-clause-codes : goal.returns-in-New-f-clause-codes
+returns-in-New-f-clause-codes g c =
     let ns = c.args.self.now.fragments.now.nodes.items in
     described c.new_room.result
     (coding_after (λ k. pointer_variable k c.args.at (coded_in ns c.args.x)) (λ v k. gives (new_room k v)) c.new_room.result (rw c.in-Known-asked.is at c.in-Ok-variable_argument.ensures ns c.requires.x) (c.new_room.ensures c.variable_argument-in-New.new.notes))
-    (λ k. ap (λ (f : Builtin). of_one_argument k f c.args.at (coded_in ns c.args.x)) (sym c.in-New.is))
+    (λ k. ap (λ (f : Builtin). of_one_argument k f c.args.at (coded_in ns c.args.x)) (sym c.in-New-f.is))
 
-pub variable_argument-requires-in-Dispose-clause-x : goal.variable_argument-requires-in-Dispose-clause-x
-variable_argument-requires-in-Dispose-clause-x g c = (c.args.self.now.fragments.now.nodes.items, c.requires.x)
-
-pub returns-in-DontKnowYet-asked-2-clause-codes : goal.returns-in-DontKnowYet-asked-2-clause-codes
-returns-in-DontKnowYet-asked-2-clause-codes g c = unknown (rw c.in-DontKnowYet-asked-2.is at c.in-Ok-variable_argument-2.ensures c.args.self.now.fragments.now.nodes.items c.requires.x)
-
-pub returns-in-Err-variable_argument-2-clause-codes : goal.returns-in-Err-variable_argument-2-clause-codes
-returns-in-Err-variable_argument-2-clause-codes g c = unmade (c.in-Err-variable_argument-2.ensures c.args.self.now.fragments.now.nodes.items c.requires.x) _
-
-pub disposed-requires : goal.disposed-requires
-disposed-requires g c = (rw c.in-Known-asked-2.is at c.in-Ok-variable_argument-2.ensures c.args.self.now.fragments.now.nodes.items c.requires.x).there.code
-
-pub returns-in-Known-asked-2-clause-codes : goal.returns-in-Known-asked-2-clause-codes
-returns-in-Known-asked-2-clause-codes g c =
+pub returns-in_default-f : goal.returns-in_default-f
+returns-in_default-f g c =
     let ns = c.args.self.now.fragments.now.nodes.items in
-    let first = rw c.in-Known-asked-2.is at c.in-Ok-variable_argument-2.ensures ns c.requires.x in
-    described c.disposed.result
-    (coding_after (λ k. pointer_variable k c.args.at (coded_in ns c.args.x)) (λ v k. gives (disposed v)) c.disposed.result first
-    (c.disposed.ensures (g.S.Scopes.state c.variable_argument-in-Dispose.new.scopes) c.variable_argument-in-Dispose.new.notes c.args.self.now.site.now (suits_after first c.requires.suits)))
-    (λ k. ap (λ (f : Builtin). of_one_argument k f c.args.at (coded_in ns c.args.x)) (sym c.in-Dispose.is))
+    let first = rw c.in-Known-asked.is at c.in-Ok-variable_argument.ensures ns c.requires.x in
+    record {
+      keeps = record { site = refl; withs = refl; scopes = refl; fragments = refl; notes = refl };
+      codes = described c.disposed.result
+          (coding_after (λ k. pointer_variable k c.args.at (coded_in ns c.args.x)) (λ v k. gives (disposed v)) c.disposed.result first
+          (c.disposed.ensures (g.S.Scopes.state c.variable_argument-in-New.new.scopes) c.variable_argument-in-New.new.notes c.args.self.now.site.now (suits_after first c.requires.suits)))
+          (λ k. ap (λ (f : Builtin). of_one_argument k f c.args.at (coded_in ns c.args.x)) (sym (second c.in-New.is c.in_default-f.not-New)));
+    }

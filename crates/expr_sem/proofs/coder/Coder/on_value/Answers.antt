@@ -46,23 +46,23 @@ rule_code-requires-clause-v g c =
 pub returns-in-DontKnowYet-asked-2-clause-codes : goal.returns-in-DontKnowYet-asked-2-clause-codes
 returns-in-DontKnowYet-asked-2-clause-codes g c =
     let ns = c.args.self.now.fragments.now.nodes.items in
-    then_unknown (followed_by (by_coding (c.in-Ok.ensures (g.S.Scopes.state c.args.self.now.scopes.now) ns c.requires.x)) (by_coding (of_analysed ns _ c.in-Ok-rule_noted.ensures))) (rw c.in-DontKnowYet-asked-2.is at c.in-Ok-rule_code.ensures.codes)
+    then_unknown (followed_by (by_coding (c.in-Ok.ensures (g.S.Scopes.state c.args.self.now.scopes.now) ns c.requires.x)) (by_coding (of_analysed ns _ c.in-Ok-rule_noted.ensures))) (rw c.in-DontKnowYet-asked-2.is at c.in-Ok-rule_code.ensures c.rule_noted.new.notes)
 
 pub returns-in-Err-rule_code-clause-codes : goal.returns-in-Err-rule_code-clause-codes
 returns-in-Err-rule_code-clause-codes g c =
     let ns = c.args.self.now.fragments.now.nodes.items in
-    then_wanted (followed_by (by_coding (c.in-Ok.ensures (g.S.Scopes.state c.args.self.now.scopes.now) ns c.requires.x)) (by_coding (of_analysed ns _ c.in-Ok-rule_noted.ensures))) c.in-Err-rule_code.ensures.codes _
+    then_wanted (followed_by (by_coding (c.in-Ok.ensures (g.S.Scopes.state c.args.self.now.scopes.now) ns c.requires.x)) (by_coding (of_analysed ns _ c.in-Ok-rule_noted.ensures))) (c.in-Err-rule_code.ensures c.rule_noted.new.notes) _
 
 pub returns-clause-codes : goal.returns-clause-codes
 returns-clause-codes g c =
     let ns = c.args.self.now.fragments.now.nodes.items in
-    let ms = c.rule_code.new.self.fragments.now.nodes.items in
+    let ms = c.rule_code.new.fragments.nodes.items in
     let v = coded_in ns c.in-Known.value in
     let r = c.in-Known-asked.value in
     let one = rw c.in-Known.is at c.in-Ok.ensures (g.S.Scopes.state c.args.self.now.scopes.now) ns c.requires.x in
     let analysed = rw c.in-Known-asked.is at c.in-Ok-rule_noted.ensures in
     let two = of_analysed ns _ analysed in
-    let three = rw c.in-Known-asked-2.is at c.in-Ok-rule_code.ensures.codes in
+    let three = rw c.in-Known-asked-2.is at c.in-Ok-rule_code.ensures c.rule_noted.new.notes in
     coding_after (λ k. as_value k c.args.at (coded_in ns c.args.x)) (λ u k. under k c.args.rule c.args.at u) (Ok (Known c.made.result)) one
     (coding_after (λ k. rule_of k c.args.rule c.args.at v.operand) (λ r k. gives (made r (code_of k c.args.rule v))) (Ok (Known c.made.result)) two
     (with_grown (λ p k. made r p) c.made.result three (Grows-refl ms) (c.made.ensures.there _ ms (holds_after two (λ (f : Frame). IsOperand f r) analysed.there) three.there) (λ k. c.made.ensures.told ms)))

@@ -1,18 +1,17 @@
-use Rattle.std.proofs.Common.{◌∙◌, Ok, refl}
+use Rattle.std.proofs.Common.{◌∙◌, Ok, ap}
 use Rattle.m2_base.specs.Gives.{gives}
 use Rattle.m2_base.specs.States.{Frame}
 use Rattle.m2_base.specs.Statics.Operations.{apply_one}
 use Rattle.m2_base.specs.declared.replies.Ask.TheVariants.{Known}
 use Rattle.const_eval.specs.Sites.{IsOperand}
-use Rattle.block_code.specs.Coded.{value_code}
+use Rattle.block_code.specs.Coded.{Coded, value_code}
 use Rattle.expr_sem.specs.Codings.{IsCoded, coded_in}
+use Rattle.expr_sem.specs.Fragments.{part}
 use Rattle.block_code.specs.Operators.{made, one_instr}
 use Rattle.block_code.specs.Parts.{none, plain, ◌⨟◌}
-use Rattle.expr_sem.proofs.Following.{by_coding, followed_by, holds, still_coded, still_suits, then_full, then_unknown, then_wanted}
-use Rattle.expr_sem.proofs.Onwards.{with_fragment, with_grown}
-use Rattle.expr_sem.proofs.Operating.{coding_after, of_analysed, unknown, unmade, value_alone}
-use Rattle.expr_sem.proofs.Sequencing.{Grows-refl}
-use Rattle.expr_sem.proofs.Without.{made_without}
+use Rattle.expr_sem.proofs.Following.{by_coding, holds, still_coded, still_suits, then_unknown, then_wanted}
+use Rattle.expr_sem.proofs.Operating.{coding_after, described, of_analysed, unknown, unmade, value_alone}
+use Rattle.expr_sem.proofs.Without.{made_computed, made_without}
 use Rattle.expr_sem.proofs.coder.Coder.one_coded.Goals as goal
 
 pub returns-in-DontKnowYet-clause-codes : goal.returns-in-DontKnowYet-clause-codes
@@ -37,22 +36,19 @@ returns-in-Err-value_code-clause-codes g c = then_wanted (by_coding (of_analysed
 pub signed-requires : goal.signed-requires
 signed-requires g c = (rw c.in-Known-asked.is at c.in-Ok-value_code.ensures c.applied_one.new.notes).there
 
-pub returns-in_err-code-clause-codes : goal.returns-in_err-code-clause-codes
-returns-in_err-code-clause-codes g c =
-    then_full c.from_residual.result c.from_residual.ensures.0
-    (followed_by (by_coding (of_analysed c.args.self.now.fragments.now.nodes.items _ c.in-Ok.ensures)) (by_coding (c.in-Ok-value_code.ensures c.applied_one.new.notes))) c.in_err-code.ensures
-
 pub returns-clause-codes : goal.returns-clause-codes
 returns-clause-codes g c =
     let ns = c.args.self.now.fragments.now.nodes.items in
-    let os = c.signed.new.fragments.nodes.items in
-    let r = c.in-Known.value in
+    let given = c.in-Known.value in
+    let r = c.answered_as.result in
     let analysed = rw c.in-Known.is at c.in-Ok.ensures in
     let one = of_analysed ns _ analysed in
-    let two = with_fragment (λ p. p ⨟ plain (one_instr c.args.op)) (rw c.in-Known-asked.is at c.in-Ok-value_code.ensures c.applied_one.new.notes) c.in_ok-code.ensures refl in
-    coding_after (λ k. apply_one k c.args.op c.args.op_at c.args.x.operand) (λ r k. gives (made r (value_code k (coded_in ns c.args.x) ⨟ plain (one_instr c.args.op)))) (Ok (Known c.made-2.result)) one
-    (with_grown (λ p k. made r p) c.made-2.result two (Grows-refl os)
-    (c.made-2.ensures.there (g.S.Scopes.state c.applied_one.new.scopes).frame os (holds (by_coding one) (λ (f : Frame). IsOperand f r) analysed.there) two.there) (λ k. c.made-2.ensures.told os))
+    let two = rw c.in-Known-asked.is at c.in-Ok-value_code.ensures c.applied_one.new.notes in
+    let stands = holds (by_coding two) (λ (f : Frame). IsOperand f given) (holds (by_coding one) (λ (f : Frame). IsOperand f given) analysed.there) in
+    coding_after (λ k. apply_one k c.args.op c.args.op_at c.args.x.operand) (λ o k. gives (made o (value_code k (coded_in ns c.args.x) ⨟ plain (one_instr c.args.op)))) r one
+    (coding_after (λ k. gives (value_code k (coded_in ns c.args.x))) (λ p k. gives (made given (p ⨟ plain (one_instr c.args.op)))) r two
+    (described r (c.answered_as.ensures (g.S.Scopes.state c.value_code.new.scopes) c.applied_one.new.notes c.args.self.now.site.now _ _ _ stands c.signed.ensures)
+    (λ k. ap (λ (u : Coded). gives u) (made_computed given _ (part c.value_code.new.fragments.nodes.items c.in-Known-asked.value ⨟ plain (one_instr c.args.op)) c.in-Computed.is))))
 
 pub returns-in_default-clause-codes : goal.returns-in_default-clause-codes
 returns-in_default-clause-codes g c =

@@ -1,20 +1,16 @@
-use Rattle.std.proofs.Common.{◌∙◌, ◌-◌, ◌∷◌, [], Ok, Some, ap, refl, subst, sym}
+use Rattle.std.proofs.Common.{◌∙◌, ◌-◌, ◌∷◌, [], ap, refl, subst, sym}
 use Rattle.std.specs.Prelude.{pos}
 use Rattle.m2_base.specs.Finished.{source_of}
-use Rattle.m2_base.specs.declared.replies.Ask.TheVariants.{Known}
 use Rattle.code_form.specs.declared.instr.Instr.{Instr}
 use Rattle.code_form.specs.declared.instr.Instr.TheVariants.{Push}
 use Rattle.const_eval.proofs.TypesThere.{standard_there}
 use Rattle.type_rules.specs.Sites.{context_of}
-use Rattle.type_rules.proofs.Reading.{Reads-refl}
 use Rattle.block_code.specs.Arguments.{open_argument}
-use Rattle.block_code.specs.Coded.{characters}
 use Rattle.expr_sem.specs.Codings.{coded_in}
 use Rattle.expr_sem.specs.Fragments.{part}
-use Rattle.block_code.specs.Parts.{plain, text, ◌⨟◌}
-use Rattle.expr_sem.proofs.ArgumentCases.{other_open, passed, string_refused, string_taken}
-use Rattle.expr_sem.proofs.Following.{by_question, then_full}
-use Rattle.expr_sem.proofs.Making.{after_question, fragment_told, question_full, question_waits}
+use Rattle.block_code.specs.Parts.{plain, ◌⨟◌}
+use Rattle.expr_sem.proofs.ArgumentCases.{other_open, string_refused, string_taken}
+use Rattle.expr_sem.proofs.Making.{after_question, question_full, question_waits}
 use Rattle.expr_sem.proofs.Operating.{described}
 use Rattle.expr_sem.proofs.Sequencing.{Grows-refl, made_after, then_rest}
 use Rattle.expr_sem.proofs.coder.Coder.open_argument.Goals as goal
@@ -31,11 +27,6 @@ returns-in_err-address-in-StringConstant-clause-codes g c =
 pub instr_behind-requires : goal.instr_behind-requires
 instr_behind-requires g c = (c.in_ok-address-in-StringConstant.ensures (source_of c.args.self.now.site.now.texts.now) refl).made.there
 
-pub returns-in_err-code-in-StringConstant-clause-codes : goal.returns-in_err-code-in-StringConstant-clause-codes
-returns-in_err-code-in-StringConstant-clause-codes g c =
-    then_full c.from_residual-in_err-code-in-StringConstant.result c.from_residual-in_err-code-in-StringConstant.ensures.0
-    (record { works = (by_question c.args.self.now.notes.now c.args.self.now.fragments.now.nodes.items c.same.ensures.reads).works; grows = (c.in_ok-address-in-StringConstant.ensures (source_of c.args.self.now.site.now.texts.now) refl).grows }) c.in_err-code-in-StringConstant.ensures
-
 pub returns-then-value-clause-codes : goal.returns-then-value-clause-codes
 returns-then-value-clause-codes g c =
     let source = source_of c.args.self.now.site.now.texts.now in
@@ -43,12 +34,11 @@ returns-then-value-clause-codes g c =
     let len = c.in-StringConstant.length in
     let ms = c.string_value.new.fragments.nodes.items in
     let x = coded_in c.args.self.now.fragments.now.nodes.items c.args.x.coded in
-    let code = c.in_ok-code-in-StringConstant.code in
-    let made = then_rest (Ok code) (plain (Push (pos (len - 1)) ∷ [])) (c.in_ok-address-in-StringConstant.ensures source refl)
-    (made_after (Ok code) (Grows-refl ms) c.in_ok-code-in-StringConstant.ensures
-    (ap (λ (i : Instr). part ms c.in_ok-address-in-StringConstant.address ⨟ plain (i ∷ [])) c.push_length.ensures)) in
-    after_question (Ok (Known (Some code))) c.same.ensures.reads
-    (passed (fragment_told c.args.self.now.notes.now code (λ k. text (characters k.source name) ⨟ plain (Push (pos (len - 1)) ∷ [])) (Reads-refl (g.S.Scopes.state c.same.new.scopes)) made (λ made in_hand told. refl)))
+    let made = then_rest c.instr_behind.result (plain (Push (pos (len - 1)) ∷ [])) (c.in_ok-address-in-StringConstant.ensures source refl)
+    (made_after c.instr_behind.result (Grows-refl ms) c.instr_behind.ensures
+    (ap (λ (i : Instr). part ms c.in_ok-address-in-StringConstant.address ⨟ plain (i ∷ [])) c.push_length-last.ensures)) in
+    after_question c.passed_as.result c.same.ensures.reads
+    (c.passed_as.ensures (g.S.Scopes.state c.same.new.scopes) c.args.self.now.notes.now c.args.self.now.site.now _ _ _ made)
     (λ made in_hand told. let k = context_of (g.S.Scopes.state c.args.self.now.scopes.now).frame made c.args.self.now.site.now in
     string_taken k c.args.want c.args.x.at name len (sym (c.in-Known.ensures.told made in_hand told) ∙ c.if-value.true)
     ∙ ap (open_argument k c.args.want c.args.x.at x) (sym c.in-StringConstant.is))

@@ -1,23 +1,22 @@
-use Rattle.std.proofs.Common.{◌∙◌, Bool, List, Ok, ap, sym, subst, if◌then◌else◌}
+use Rattle.std.proofs.Common.{◌∙◌, Bool, List, ap, sym, subst, if◌then◌else◌}
 use Rattle.m2_base.specs.Gives.{gives}
 use Rattle.m2_base.specs.Standard.{broken}
 use Rattle.m2_base.specs.States.{Frame}
 use Rattle.m2_base.specs.Statics.Operands.{operand_type}
-use Rattle.m2_base.specs.declared.replies.Ask.TheVariants.{Known}
 use Rattle.m2_base.specs.declared.rows.Place.{Place}
 use Rattle.code_form.specs.declared.instr.Instr.{Instr}
 use Rattle.const_eval.proofs.TypesThere.{standard_there, type_there}
 use Rattle.type_rules.specs.Scenes.{IsThere}
 use Rattle.block_code.specs.Coded.{coded, in_error, value_code}
-use Rattle.expr_sem.specs.Codings.{IsCoded, coded_in}
+use Rattle.expr_sem.specs.Codings.{coded_in}
 use Rattle.expr_sem.specs.Fragments.{part}
 use Rattle.block_code.specs.Parts.{Part}
 use Rattle.block_code.specs.StandardProcedures.{no_value, step_instrs, update}
-use Rattle.expr_sem.specs.Updates.{instrs_of, updated_by}
-use Rattle.expr_sem.proofs.Following.{by_coding, by_question, followed_by, then_full, then_waits}
+use Rattle.expr_sem.specs.Updates.{updated_by}
+use Rattle.expr_sem.proofs.Following.{by_coding, then_waits}
 use Rattle.expr_sem.proofs.Making.{after_question}
 use Rattle.expr_sem.proofs.Onwards.{holds_after, in_after, suits_after}
-use Rattle.expr_sem.proofs.Operating.{coding_after, described, unknown, unmade, value_grown}
+use Rattle.expr_sem.proofs.Operating.{coding_after, described, unknown, unmade}
 use Rattle.expr_sem.proofs.Quiet.{no_notes}
 use Rattle.expr_sem.proofs.Selecting.{error_alone, stays_read}
 use Rattle.expr_sem.proofs.Sequencing.{part_later}
@@ -55,29 +54,22 @@ updated-requires-clause-variable g c = in_after (c.value_code.ensures (no_notes 
 pub updated-requires-clause-number : goal.updated-requires-clause-number
 updated-requires-clause-number g c = (rw c.in-Known.is at c.in-Ok.ensures (no_notes c.args.self.now.fragments.now)).there
 
-pub returns-in_err-code-clause-codes : goal.returns-in_err-code-clause-codes
-returns-in_err-code-clause-codes g c =
-    let notes = c.args.self.now.notes.now in
-    then_full c.from_residual.result c.from_residual.ensures.0 (followed_by (by_coding (c.value_code.ensures notes)) (by_question notes _ c.in-Known-step_change.ensures.reads)) c.in_err-code.ensures
-
 pub returns-clause-codes : goal.returns-clause-codes
 returns-clause-codes g c =
     let notes = c.args.self.now.notes.now in
     let ns = c.args.self.now.fragments.now.nodes.items in
     let ms = c.value_code.new.fragments.nodes.items in
-    let last = c.updated.new.fragments.nodes.items in
     let f = c.args.f in
     let of = operand_type c.args.x.operand in
+    let r = c.answered_as.result in
     let one = rw c.in-Known.is at c.in-Ok.ensures notes in
     let reads = c.in-Known-step_change.ensures.reads in
-    let made = c.in_ok-code.ensures in
     let there = stays_read (λ (f : Frame). IsThere f broken) reads (standard_there (suits_after one c.requires.suits).around 10) in
-    described (Ok (Known c.new.result))
-    (coding_after (λ k. gives (value_code k (coded_in ns c.args.n))) (λ (p : Part) k. gives (update (coded_in ns c.args.x) p (step_instrs k.scene f of))) (Ok (Known c.new.result)) one
-    (described (Ok (Known c.new.result))
-    (after_question {h = λ k. gives (coded no_value (updated_by (part ms c.args.x.code) (part ms c.in-Known.value) (step_instrs k.scene f c.operand_type-of.result)))} (Ok (Known c.new.result)) reads
-    (value_grown (g.S.Scopes.state c.step_change.new.scopes) notes c.args.self.now.site.now c.new.result IsCoded coded_in (λ k. coded no_value (updated_by (part ms c.args.x.code) (part ms c.in-Known.value) (instrs_of c.in-Known-step_change.value)))
-    made.grows (c.new.ensures.there _ last there made.made.there) (λ k. c.new.ensures.told last ∙ ap (λ (p : Part). coded no_value p) made.made.part_is))
+    described r
+    (coding_after (λ k. gives (value_code k (coded_in ns c.args.n))) (λ (p : Part) k. gives (update (coded_in ns c.args.x) p (step_instrs k.scene f of))) r one
+    (described r
+    (after_question {h = λ k. gives (coded no_value (updated_by (part ms c.args.x.code) (part ms c.in-Known.value) (step_instrs k.scene f c.operand_type-of.result)))} r reads
+    (c.answered_as.ensures (g.S.Scopes.state c.step_change.new.scopes) notes c.args.self.now.site.now _ _ _ there c.updated.ensures)
     (λ rows in_hand told. ap (λ (is : List Instr). gives (coded no_value (updated_by (part ms c.args.x.code) (part ms c.in-Known.value) is))) (c.in-Known-step_change.ensures.told rows in_hand told)))
     (λ k. ap (λ (t : Place). gives (coded no_value (updated_by (part ms c.args.x.code) (part ms c.in-Known.value) (step_instrs k.scene f t)))) c.operand_type-of.ensures
     ∙ ap (λ (v : Part). gives (coded no_value (updated_by v (part ms c.in-Known.value) (step_instrs k.scene f of)))) (part_later one.grows c.args.x.code c.requires.x.code))))
