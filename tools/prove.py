@@ -5,9 +5,10 @@ usage: prove.py [NAME]
 
 Each crate is proved in a room of its own (rooms.py) over the libraries below it, by `rt lib`, and a program by `rt
 run` without words. The libraries hold statements alone (rt_once.py) and go into the crates' out/statements; a program
-goes into its out/, as if rt had run there. A second start goes on with the crates that weren't done. The crate with the longest
-chain of others above it gets three jobs, and goes before the others; beside it others are proved, with one each, while
-there are processors and memory, about 3 GB a check. A crate that took a while has a line when it ends. The
+goes into its out/, as if rt had run there. A second start goes on with the crates that weren't done. A crate that starts with a
+longer chain of others above it than all that are in work gets three jobs, and goes before the others; beside it others
+are proved, with one each, while there are processors and memory, about 3 GB a check. A crate that took a while has a
+line when it ends. The
 first that fails ends the run with a line that names its log, out/prove/NAME.log, and status 70. Ctrl-C ends all checks.
 """
 import ctypes
@@ -24,7 +25,8 @@ GB = 1 << 30
 # What a check takes of memory, and each job of it beyond the first.
 CHECK, JOB = 3 * GB, 3 * GB // 2
 MOST_JOBS = 4
-# The jobs of the crate with the longest chain: each one more is busy but half of the time, and costs a tenth more.
+# The jobs of a crate that starts with the longest chain: each one more is busy but half of the time, and costs some
+# twentieth more.
 URGENT_JOBS = 3
 # What lies below a crate is read as long as so many lines for each are proved.
 LINES_OF_CRATE_BELOW = 30
