@@ -1,10 +1,9 @@
 -- A further node behind others: what it stands for, and that all stay sound.
-use Rattle.std.proofs.Common.{◌≡◌, ◌∙◌, ◌++◌, ◌∷◌, ◌⊎◌, inl, inr, [], ℕ, zero, suc, ◌+◌, ◌<◌, ◌≤◌, List, length, Some, Ok, ap, sym, subst, refl, arith}
+use Rattle.std.proofs.Common.{◌≡◌, ◌∙◌, ◌++◌, ◌∷◌, ◌⊎◌, inl, inr, [], ℕ, zero, suc, ◌<◌, ◌≤◌, List, length, Some, Ok, ap, sym, subst, refl, arith}
 use Rattle.std.specs.Prelude.{get_or, slice_get, slice_index_or}
 use Rattle.std.proofs.lemmas.List.{get_or_push}
-use Rattle.code_form.specs.Heights.{Step}
 use Rattle.expr_sem.specs.Fragments.{AreSound, IsMade, IsMadeOf, IsSound, part, part_by, parts_after}
-use Rattle.block_code.specs.Parts.{Part, Spot, none, steps_size, ◌⨟◌}
+use Rattle.block_code.specs.Parts.{Part, Spot, none, steps_size}
 use Rattle.expr_sem.specs.declared.fragments.Fragment.TheVariants.{Node as NodeOf}
 use Rattle.expr_sem.specs.declared.fragments.Node.{Node}
 use Rattle.expr_sem.proofs.Sequencing.{parts_append, parts_length, part_before}

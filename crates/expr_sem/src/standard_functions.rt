@@ -155,24 +155,34 @@ fn size_coded<S: Scopes>(
     Ok(Ask::Known(made(given, code)))
 }
 
-/// What MIN or MAX gives of a type, which needs no code.
-fn of_type_coded<S: Scopes>(
-    scopes: &mut S,
-    site: &Site,
-    function: TypeFunction,
-    x: Argument,
-    notes: &mut Notes,
-) -> Result<Ask<Coded>, Memory>
-    requires suits { SuitsSite (S.state scopes.old).frame site.now }
-    requires x { IsOperand (S.state scopes.old).frame x.operand }
-    ensures { (nodes : List Node) → Coding (S.state scopes.old) (S.state scopes.new) notes.old notes.new nodes nodes
-        site.now result IsCoded coded_in (λ c. and_then (of_type c function x.at x.operand) (λ r. gives (bare r))) }
-{
-    let given = analysed!(of_type_noted(scopes, site, function, x, notes));
-    Ok(Ask::Known(Coded::bare(given)))
-}
-
 impl<S: Scopes> Coder<'_, '_, S> {
+    /// What MIN or MAX gives of a type, which needs no code.
+    fn of_type_coded(
+        &mut self,
+        function: TypeFunction,
+        at: u32,
+        x: Coded,
+    ) -> Result<Ask<Coded>, Memory>
+        requires suits { SuitsPlace S.state self.old }
+        requires x { IsCoded (frame_of S.state self.old) (nodes_of self.old) x }
+        ensures keeps { Keeps self.old self.new }
+        ensures codes { Codes S.state self.old self.new result IsCoded coded_in
+            (λ c. and_then (of_type c function at x.operand) (λ r. gives (bare r))) }
+    {
+        let argument = Argument {
+            at,
+            operand: x.operand,
+        };
+        let given = analysed!(of_type_noted(
+            self.scopes,
+            self.site,
+            function,
+            argument,
+            self.notes
+        ));
+        Ok(Ask::Known(Coded::bare(given)))
+    }
+
     /// A function of one argument; of other standard procedures nobody asks.
     pub(crate) fn function_of_one(
         &mut self,
@@ -192,26 +202,8 @@ impl<S: Scopes> Coder<'_, '_, S> {
             Builtin::Chr => self.on_value(Rule::Function(ValueFunction::Chr), at, x),
             Builtin::Odd => self.on_value(Rule::Function(ValueFunction::Odd), at, x),
             Builtin::Ord => self.on_value(Rule::Function(ValueFunction::Ord), at, x),
-            Builtin::Min => of_type_coded(
-                self.scopes,
-                self.site,
-                TypeFunction::Min,
-                Argument {
-                    at,
-                    operand: x.operand,
-                },
-                self.notes,
-            ),
-            Builtin::Max => of_type_coded(
-                self.scopes,
-                self.site,
-                TypeFunction::Max,
-                Argument {
-                    at,
-                    operand: x.operand,
-                },
-                self.notes,
-            ),
+            Builtin::Min => self.of_type_coded(TypeFunction::Min, at, x),
+            Builtin::Max => self.of_type_coded(TypeFunction::Max, at, x),
             Builtin::Size => size_coded(
                 self.scopes,
                 self.site,

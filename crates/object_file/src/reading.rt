@@ -18,6 +18,14 @@ use crate::parts::{ImportNote, Parts};
 use m2_base::{MOST_CELLS, ProcCode};
 use std::alloc::Global;
 
+/// The first fields of a procedure: its outer procedure, and the cells of its parameters, of its result and in all.
+struct ProcedureFrame {
+    outer: u32,
+    params: u32,
+    result: u32,
+    locals: u32,
+}
+
 #[tactic(auto, unfolding(crate::specs::Reading::export_at))]
 fn export(bytes: &mut &[u8]) -> Result<(u32, u32, u32), Stop>
     ensures { Gives (λ x. (x, bytes.new.now)) result (export_at [] bytes.old.now) }
@@ -135,9 +143,9 @@ fn imports(alloc: Global, version: u32, bytes: &mut &[u8]) -> Result<Vec<ImportN
     imports_of(alloc, version, count, bytes)
 }
 
-/// The frame of procedure k: its outer procedure, and the cells of its parameters, of its result and in all.
+/// The frame of procedure k.
 #[tactic(auto, unfolding(crate::specs::Reading::frame_at))]
-fn frame(exports: &Exports, k: u32, bytes: &mut &[u8]) -> Result<(u32, u32, u32, u32), Stop>
+fn frame(exports: &Exports, k: u32, bytes: &mut &[u8]) -> Result<ProcedureFrame, Stop>
     ensures { Gives (λ x. (x, bytes.new.now)) result (frame_at exports.now k bytes.old.now) }
 {
     let at = *bytes;
@@ -147,15 +155,20 @@ fn frame(exports: &Exports, k: u32, bytes: &mut &[u8]) -> Result<(u32, u32, u32,
     let params = number(bytes)?;
     valid(is_params(exports, k, params), at)?;
     let at = *bytes;
-    let cells = number(bytes)?;
-    valid(is_result(exports, k, cells), at)?;
+    let result = number(bytes)?;
+    valid(is_result(exports, k, result), at)?;
     let at = *bytes;
     let locals = number(bytes)?;
     valid(is_locals(params, locals), at)?;
-    Ok((outer, params, cells, locals))
+    Ok(ProcedureFrame {
+        outer,
+        params,
+        result,
+        locals,
+    })
 }
 
-/// A procedure behind these.
+/// A procedure behind these: its frame and the fields behind that.
 fn procedure(
     alloc: Global,
     exports: &Exports,
@@ -166,7 +179,12 @@ fn procedure(
     ensures { Gives (λ x. (procedure_of x, bytes.new.now)) result
         (procedure_at exports.now (map procedure_of before.now) bytes.old.now) }
 {
-    let (outer, params, result, locals) = frame(exports, before.len() as u32, bytes)?;
+    let ProcedureFrame {
+        outer,
+        params,
+        result,
+        locals,
+    } = frame(exports, before.len() as u32, bytes)?;
     let high = number(bytes)?;
     let strings = text(alloc, bytes)?;
     let code = text(alloc, bytes)?;

@@ -1,38 +1,25 @@
-use Rattle.std.proofs.Common.{◌≡◌, ◌∙◌, ℕ, List, length, map, sym, ap, Result, Ok}
+use Rattle.std.proofs.Common.{◌≡◌, ℕ, List, length, map, ap, Result, Ok}
 use Rattle.std.proofs.lemmas.List.{length-map}
 use Rattle.m2_base.specs.declared.outputs.ProcCode.{ProcCode}
 use Rattle.code_form.specs.Modules.{Procedure}
 use Rattle.object_file.specs.Contents.{Export}
-use Rattle.object_file.specs.Fields.{number_at, text_at, valid_at, ◌then◌}
+use Rattle.object_file.specs.Fields.{number_at, text_at, ◌then◌}
 use Rattle.object_file.specs.Formats.{Bad}
-use Rattle.object_file.specs.ObjectFormat.{is_outer, is_params, is_result, is_locals}
 use Rattle.object_file.specs.Reading.{frame_at, procedure_at}
+use Rattle.object_file.specs.declared.reading.ProcedureFrame.{ProcedureFrame}
 use Rattle.object_file.specs.Views.{procedure_of}
 use Rattle.object_file.proofs.FieldSteps.{onwards, ends_there}
-use Rattle.object_file.proofs.Meanings.{then_same, then_then}
 use Rattle.object_file.proofs.reading.procedure.Goals as goal
 
 -- the fields behind the frame
-abbrev behind : (ℕ × ℕ × ℕ × ℕ) × List ℕ → Result (Procedure × List ℕ) Bad
+abbrev behind : ProcedureFrame × List ℕ → Result (Procedure × List ℕ) Bad
 behind f = number_at f.1 then λ high. (text_at high.1 then λ strings. (text_at strings.1 then λ code.
-    Ok (record { outer = f.0.0; params = f.0.1; result = f.0.2; locals = f.0.3; high = high.0; bytes = strings.0; code = code.0 }, code.1)))
-
--- a procedure is read as its frame and the fields behind it
-framed : (exports : List Export) (before : List Procedure) (bytes : List ℕ) → procedure_at exports before bytes ≡ (frame_at exports (length before) bytes then behind)
-unfolding procedure_at frame_at
-framed exports before bytes =
-    sym (then_then (number_at bytes) _ behind ∙ then_same (number_at bytes) _ _ (λ outer.
-    then_then (valid_at (is_outer exports (length before) outer.0) bytes) _ behind ∙ then_same (valid_at (is_outer exports (length before) outer.0) bytes) _ _ (λ u.
-    then_then (number_at outer.1) _ behind ∙ then_same (number_at outer.1) _ _ (λ params.
-    then_then (valid_at (is_params exports (length before) params.0) outer.1) _ behind ∙ then_same (valid_at (is_params exports (length before) params.0) outer.1) _ _ (λ v.
-    then_then (number_at params.1) _ behind ∙ then_same (number_at params.1) _ _ (λ result.
-    then_then (valid_at (is_result exports (length before) result.0) params.1) _ behind ∙ then_same (valid_at (is_result exports (length before) result.0) params.1) _ _ (λ w.
-    then_then (number_at result.1) _ behind ∙ then_same (number_at result.1) _ _ (λ locals.
-    then_then (valid_at (is_locals params.0 locals.0) result.1) _ behind))))))))
+    Ok (record { outer = f.0.outer; params = f.0.params; result = f.0.result; locals = f.0.locals; high = high.0; bytes = strings.0; code = code.0 }, code.1)))
 
 -- the procedures before it are as many, seen as what they say
 read_is : (exports : List Export) (before : List ProcCode) (bytes : List ℕ) → procedure_at exports (map procedure_of before) bytes ≡ (frame_at exports (length before) bytes then behind)
-read_is exports before bytes = framed exports (map procedure_of before) bytes ∙ ap (λ (k : ℕ). frame_at exports k bytes then behind) (length-map before procedure_of)
+unfolding procedure_at
+read_is exports before bytes = ap (λ (k : ℕ). frame_at exports k bytes then behind) (length-map before procedure_of)
 
 pub returns-in_err-outer : goal.returns-in_err-outer
 returns-in_err-outer c =

@@ -8,14 +8,10 @@ use Rattle.expr_sem.proofs.Selecting.{error_alone}
 use Rattle.expr_sem.proofs.coder.Coder.function_of_one.Goals as goal
 
 pub returns-in-Min-clause-codes : goal.returns-in-Min-clause-codes
-returns-in-Min-clause-codes g c =
-    let ns = c.args.self.now.fragments.now.nodes.items in
-    described c.of_type_coded.result (c.of_type_coded.ensures ns) (λ k. ap (λ (f : Builtin). function_of_one k f c.args.at (coded_in ns c.args.x)) (sym c.in-Min.is))
+returns-in-Min-clause-codes g c = described c.of_type_coded.result c.of_type_coded.ensures.codes (λ k. ap (λ (f : Builtin). function_of_one k f c.args.at (coded_in c.args.self.now.fragments.now.nodes.items c.args.x)) (sym c.in-Min.is))
 
 pub returns-in-Max-clause-codes : goal.returns-in-Max-clause-codes
-returns-in-Max-clause-codes g c =
-    let ns = c.args.self.now.fragments.now.nodes.items in
-    described c.of_type_coded-in-Max.result (c.of_type_coded-in-Max.ensures ns) (λ k. ap (λ (f : Builtin). function_of_one k f c.args.at (coded_in ns c.args.x)) (sym c.in-Max.is))
+returns-in-Max-clause-codes g c = described c.of_type_coded-in-Max.result c.of_type_coded-in-Max.ensures.codes (λ k. ap (λ (f : Builtin). function_of_one k f c.args.at (coded_in c.args.self.now.fragments.now.nodes.items c.args.x)) (sym c.in-Max.is))
 
 pub returns-in_default-clause-codes : goal.returns-in_default-clause-codes
 returns-in_default-clause-codes g c =
@@ -110,16 +106,16 @@ pub of_type_coded-requires-clause-suits : goal.of_type_coded-requires-clause-sui
 of_type_coded-requires-clause-suits g c = c.requires.suits
 
 pub of_type_coded-requires-clause-x : goal.of_type_coded-requires-clause-x
-of_type_coded-requires-clause-x g c = c.requires.x.operand
+of_type_coded-requires-clause-x g c = c.requires.x
 
 pub of_type_coded-requires-in-Max-clause-suits : goal.of_type_coded-requires-in-Max-clause-suits
 of_type_coded-requires-in-Max-clause-suits g c = c.requires.suits
 
 pub of_type_coded-requires-in-Max-clause-x : goal.of_type_coded-requires-in-Max-clause-x
-of_type_coded-requires-in-Max-clause-x g c = c.requires.x.operand
+of_type_coded-requires-in-Max-clause-x g c = c.requires.x
 
 pub returns-in-Min-clause-keeps : goal.returns-in-Min-clause-keeps
-returns-in-Min-clause-keeps g c = record { site = refl; withs = refl; scopes = refl; fragments = refl; notes = refl }
+returns-in-Min-clause-keeps g c = c.of_type_coded.ensures.keeps
 
 pub returns-in-Max-clause-keeps : goal.returns-in-Max-clause-keeps
-returns-in-Max-clause-keeps g c = record { site = refl; withs = refl; scopes = refl; fragments = refl; notes = refl }
+returns-in-Max-clause-keeps g c = c.of_type_coded-in-Max.ensures.keeps
