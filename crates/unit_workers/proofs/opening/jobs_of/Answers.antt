@@ -1,4 +1,4 @@
-use Rattle.std.proofs.Common.{subst, sym, ◌∙◌, ◌≡◌, ◌++◌, ◌∷◌, [], length}
+use Rattle.std.proofs.Common.{ap, subst, sym, ◌∙◌, ◌≡◌, ◌++◌, ◌∷◌, [], length}
 use Rattle.std.specs.List.{AllZip}
 use Rattle.std.proofs.lemmas.Slice.Zip.{all_zipped_more}
 use Rattle.std.proofs.lemmas.Iterator.{YieldsList-from_zip}
@@ -25,12 +25,12 @@ new-scopes-requires-clause-unused g c =
     let len = c.into_iter.ensures.len in
     let given = c.into_iter-stream-iterator.ensures.into_iter_gives in
     let s = c.into_iter-stream-iterator.result in
-    let a : s.a.a.rest.items ≡ c.args.streams.items = cc in
-    let b : s.a.a.rest.len ≡ length c.args.streams.items = cc in
-    let d : s.a.b.rest.items ≡ c.in_ok-arounds.arounds.items = cc (inner.0) in
-    let e : s.a.b.rest.len ≡ length c.in_ok-arounds.arounds.items = cc in
-    let f : s.b.rest.items ≡ c.args.seats.items = cc (outer.0) in
-    let h : s.b.rest.len ≡ length c.args.seats.items = cc in
+    let a : s.a.a.rest.items ≡ c.args.streams.items = ap (λ z. z.a.a.rest.items) given ∙ ap (λ z. z.a.rest.items) both ∙ ap (λ z. z.rest.items) first ∙ rest in
+    let b : s.a.a.rest.len ≡ length c.args.streams.items = ap (λ z. z.a.a.rest.len) given ∙ ap (λ z. z.a.rest.len) both ∙ ap (λ z. z.rest.len) first ∙ len ∙ c.args.streams.ok.0 in
+    let d : s.a.b.rest.items ≡ c.in_ok-arounds.arounds.items = ap (λ z. z.a.b.rest.items) given ∙ ap (λ z. z.b.rest.items) both ∙ inner.0 in
+    let e : s.a.b.rest.len ≡ length c.in_ok-arounds.arounds.items = ap (λ z. z.a.b.rest.len) given ∙ ap (λ z. z.b.rest.len) both ∙ inner.1 ∙ c.in_ok-arounds.arounds.ok.0 in
+    let f : s.b.rest.items ≡ c.args.seats.items = ap (λ z. z.b.rest.items) given ∙ outer.0 in
+    let h : s.b.rest.len ≡ length c.args.seats.items = ap (λ z. z.b.rest.len) given ∙ outer.1 ∙ c.args.seats.ok.0 in
     let blocks = YieldsList-from_zip {s = s.a} (YieldsList-from_vec {s = s.a.a} c.args.streams.items a b) (YieldsList-from_vec {s = s.a.b} c.in_ok-arounds.arounds.items d e) in
     let turn =
     YieldsList-turn (YieldsList-from_zip {s = s} blocks (YieldsList-from_vec {s = s.b} c.args.seats.items f h))
@@ -56,12 +56,12 @@ returns g c =
     let len = c.into_iter.ensures.len in
     let given = c.into_iter-stream-iterator.ensures.into_iter_gives in
     let s = c.into_iter-stream-iterator.result in
-    let a : s.a.a.rest.items ≡ c.args.streams.items = cc in
-    let b : s.a.a.rest.len ≡ length c.args.streams.items = cc in
-    let d : s.a.b.rest.items ≡ c.in_ok-arounds.arounds.items = cc (inner.0) in
-    let e : s.a.b.rest.len ≡ length c.in_ok-arounds.arounds.items = cc in
-    let f : s.b.rest.items ≡ c.args.seats.items = cc (outer.0) in
-    let h : s.b.rest.len ≡ length c.args.seats.items = cc in
+    let a : s.a.a.rest.items ≡ c.args.streams.items = ap (λ z. z.a.a.rest.items) given ∙ ap (λ z. z.a.rest.items) both ∙ ap (λ z. z.rest.items) first ∙ rest in
+    let b : s.a.a.rest.len ≡ length c.args.streams.items = ap (λ z. z.a.a.rest.len) given ∙ ap (λ z. z.a.rest.len) both ∙ ap (λ z. z.rest.len) first ∙ len ∙ c.args.streams.ok.0 in
+    let d : s.a.b.rest.items ≡ c.in_ok-arounds.arounds.items = ap (λ z. z.a.b.rest.items) given ∙ ap (λ z. z.b.rest.items) both ∙ inner.0 in
+    let e : s.a.b.rest.len ≡ length c.in_ok-arounds.arounds.items = ap (λ z. z.a.b.rest.len) given ∙ ap (λ z. z.b.rest.len) both ∙ inner.1 ∙ c.in_ok-arounds.arounds.ok.0 in
+    let f : s.b.rest.items ≡ c.args.seats.items = ap (λ z. z.b.rest.items) given ∙ outer.0 in
+    let h : s.b.rest.len ≡ length c.args.seats.items = ap (λ z. z.b.rest.len) given ∙ outer.1 ∙ c.args.seats.ok.0 in
     let blocks = YieldsList-from_zip {s = s.a} (YieldsList-from_vec {s = s.a.a} c.args.streams.items a b) (YieldsList-from_vec {s = s.a.b} c.in_ok-arounds.arounds.items d e) in
     let all =
     YieldsList-end (YieldsList-from_zip {s = s} blocks (YieldsList-from_vec {s = s.b} c.args.seats.items f h))
